@@ -1,0 +1,22 @@
+//! Sequence sheets: the types of a sheet, the reader of its bytes, and the truth of its formulas.
+//! The meaning of a sheet is in `specs/`.
+mod adding;
+mod decode;
+mod draft;
+pub mod kind;
+mod letters;
+pub mod parts;
+mod rules;
+pub mod sheet;
+pub mod syntax;
+
+pub use kind::Kind;
+pub use syntax::Args;
+pub use syntax::Bit;
+pub use syntax::Choice;
+pub use syntax::Equation;
+pub use syntax::Formula;
+pub use syntax::Reading;
+pub use syntax::Record;
+pub use syntax::Start;
+pub use syntax::Term;
