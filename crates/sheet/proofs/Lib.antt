@@ -1,2 +1,5 @@
+pub mod Decoding
 pub mod Growing
+pub mod Judging
+pub mod Progressing
 pub mod Stored

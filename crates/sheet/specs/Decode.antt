@@ -62,7 +62,7 @@ decoded s Kind.Invariant b = Some (Record.Invariant (getD b 0 0))
 decoded s Kind.Bound b = Some (Record.Bound (getD b 0 0))
 decoded s Kind.End b = None
 
-abbrev judged : System → Option Record → Result Record SheetFault
+abbrev pub judged : System → Option Record → Result Record SheetFault
 judged s None = Err BadBody
 judged s (Some x) = cond (obeys s x) (cond (fresh s x) (Ok x) (Err Repeated)) (Err BadBody)
 

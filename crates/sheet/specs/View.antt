@@ -4,8 +4,10 @@ use mathlib.Core.List.{map}
 use Prim.Native.Nat.{ℕ}
 use Rattle.std.specs.Of.Vec.{vec-items}
 use Rattle.std.specs.declared.option.Option.{Option}
+use Rattle.std.specs.declared.option.Option.the-variants.{Some}
 use Rattle.sheet.specs.declared.parts.Parts.{Parts}
 use Rattle.sheet.specs.declared.sheet.Draft.{Draft}
+use Rattle.sheet.specs.declared.sheet.Sheet.{Sheet}
 use Rattle.sheet.specs.Entries.{termIn, termInfoIn, formulaIn, formulaInfoIn}
 use Rattle.sheet.specs.Rules.{termInfos, formulaInfos}
 use Rattle.sheet.specs.System.{System, add}
@@ -16,6 +18,9 @@ systemOf p v h = record { bits = vec-items (p .bits); symbols = vec-items (p .sy
 
 abbrev pub draftOf : Draft → System
 draftOf d = systemOf (d .parts) (d .invariant) (d .bound)
+
+abbrev pub sheetOf : Sheet → System
+sheetOf s = systemOf (s .parts) (Some (s .invariant)) (Some (s .bound))
 
 -- what is stored with each term and formula is what the rules say of it
 pub record Informed (p : Parts) : Type 0 where

@@ -9,6 +9,7 @@ ghost use Rattle.std.specs.Of.Vec.{vec-items};
 ghost use Rattle.sheet.specs.Decode.{decoded, judge};
 ghost use Rattle.sheet.specs.Entries.{termInfoIn, formulaInfoIn};
 ghost use Rattle.sheet.specs.Format.{bodyLength, kindOf};
+ghost use Rattle.sheet.specs.Outcome.{complete};
 ghost use Rattle.sheet.specs.Rules.{noInfo, plain, room, names, keeps, count, fresh, argsBelow, argsInfo};
 ghost use Rattle.sheet.specs.System.{noBit, noReading};
 ghost use Rattle.sheet.specs.View.{draftOf, Informed};
@@ -226,6 +227,13 @@ impl Draft {
         } else {
             None
         }
+    }
+
+    // Whether the invariant and the height bound are given.
+    pub(crate) fn is_complete(&self) -> bool
+        ensures { λ r. ⌜ r ≡ complete (draftOf (now (self .entry))) ⌝ }
+    {
+        self.invariant.is_some() && self.bound.is_some()
     }
 
     // The record that the body writes, or the first rule against it.

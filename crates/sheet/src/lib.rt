@@ -6,6 +6,7 @@ mod draft;
 pub mod kind;
 mod letters;
 pub mod parts;
+mod reader;
 mod rules;
 pub mod sheet;
 pub mod syntax;

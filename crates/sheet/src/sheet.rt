@@ -8,3 +8,11 @@ pub(crate) struct Draft {
     pub(crate) invariant: Option<u8>,
     pub(crate) bound: Option<u8>,
 }
+
+/// A whole sheet: its numbered things, the formula of its invariant and its height bound.
+#[derive(Drop)]
+pub struct Sheet {
+    pub(crate) parts: Parts,
+    pub(crate) invariant: u8,
+    pub(crate) bound: u8,
+}
