@@ -31,6 +31,10 @@ pub record System : Type 0 where
 abbrev pub nothing : System
 nothing = record { bits = []; symbols = []; readings = []; inputs = 0; terms = []; questions = []; claims = []; formulas = []; choices = []; invariant = None; bound = None }
 
+-- true, as the invariant, and the height bound 0
+abbrev pub smallest : System
+smallest = record { bits = []; symbols = []; readings = []; inputs = 0; terms = []; questions = []; claims = []; formulas = Formula.True ∷ []; choices = []; invariant = Some 0; bound = Some 0 }
+
 -- past the end
 abbrev pub noBit : Bit
 noBit = record { start = Bool.false; next = None }

@@ -1,9 +1,10 @@
 //! What is fixed by a record's letter.
 ghost use mathlib.Core.Path.{_≡_};
 ghost use Rattle.std.specs.Options.{Cases as BySome};
-ghost use Rattle.sheet.specs.Format.{letter, bodyLength};
+ghost use Rattle.sheet.specs.Format.{letter, bodyLength, kindOf};
 ghost use Rattle.sheet.specs.Rules.{most};
 use crate::kind::Kind;
+use crate::syntax::Record;
 
 impl Kind {
     /// The kind that a letter begins.
@@ -54,6 +55,28 @@ impl Kind {
             Kind::Input | Kind::Claim => Some(4),
             Kind::Term | Kind::Formula | Kind::Choice => Some(64),
             Kind::NextBit | Kind::NextReading | Kind::Invariant | Kind::Bound | Kind::End => None,
+        }
+    }
+}
+
+impl Record {
+    pub fn kind(&self) -> Kind
+        ensures { λ r. ⌜ r ≡ kindOf (now (self .entry)) ⌝ }
+    {
+        match self {
+            Record::Bit(_) => Kind::Bit,
+            Record::Symbol(_) => Kind::Symbol,
+            Record::Reading(_) => Kind::Reading,
+            Record::Input => Kind::Input,
+            Record::Term(_) => Kind::Term,
+            Record::Question(_) => Kind::Question,
+            Record::Claim(_) => Kind::Claim,
+            Record::Formula(_) => Kind::Formula,
+            Record::Choice(_) => Kind::Choice,
+            Record::NextBit(_, _) => Kind::NextBit,
+            Record::NextReading(_, _) => Kind::NextReading,
+            Record::Invariant(_) => Kind::Invariant,
+            Record::Bound(_) => Kind::Bound,
         }
     }
 }

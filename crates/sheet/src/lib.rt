@@ -12,6 +12,11 @@ pub mod sheet;
 pub mod syntax;
 
 pub use kind::Kind;
+pub use parts::Parts;
+pub use reader::read;
+pub use reader::read_records;
+pub use reader::smallest;
+pub use sheet::Sheet;
 pub use syntax::Args;
 pub use syntax::Bit;
 pub use syntax::Choice;

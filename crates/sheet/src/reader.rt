@@ -1,20 +1,23 @@
 //! From bytes to a sheet, or to the first fault.
 ghost use mathlib.Core.Path.{_≡_};
 ghost use mathlib.Core.Bool.{true, false, _&&_};
+ghost use mathlib.Core.List.{List};
 ghost use Prim.Native.Nat.{_<_, _≤_};
 ghost use lib.ListN.{length, drop};
 ghost use Rattle.std.specs.Of.Vec.{vec-items};
 ghost use Rattle.std.specs.Options.{Cases as BySome};
 ghost use Rattle.std.specs.Results.{Cases};
+ghost use Rattle.std.specs.Vec.{made};
 ghost use Rattle.sheet.specs.Format.{letter};
 ghost use Rattle.sheet.specs.Outcome.{Accepted, complete, Failed, FaultyAt};
 ghost use Rattle.sheet.specs.Progress.{KindAt, NoKindAt, ReadTo, Ended};
 ghost use Rattle.sheet.specs.View.{draftOf, sheetOf, Informed};
-ghost use Rattle.sheet.specs.System.{nothing};
+ghost use Rattle.sheet.specs.System.{nothing, smallest};
 use crate::kind::Kind;
 use crate::parts::Parts;
 use crate::sheet::Draft;
 use crate::sheet::Sheet;
+use crate::syntax::Formula;
 use crate::syntax::Record;
 use fault::Failure;
 use fault::FailureFromAlloc;
@@ -22,6 +25,7 @@ use fault::FailureFromRefused;
 use fault::Fault;
 use fault::Place;
 use fault::SheetFault;
+use std::alloc::AllocError;
 use std::alloc::Global;
 
 // The kind of the record at the place, if it is whole.
@@ -147,5 +151,26 @@ pub fn read_records(bytes: &[u8], heap: Global, records: &mut Vec<Record>) -> Re
     while let Some(next) = advance(bytes, place, &mut draft, records)? {
         place = next;
     }
+    Ok(draft.into_sheet())
+}
+
+/// Reads a sheet into the caller's place, which keeps its earlier sheet unless the bytes are a whole one.
+pub fn read(bytes: &[u8], heap: Global, place: &mut Sheet) -> Result<(), Failure>
+    ensures { λ r. ⌜ Cases r (λ _. (xs : List Record) × Accepted (now (bytes .entry)) xs (sheetOf (now (place .exit)))) (λ e. ((xs : List Record) × Failed (now (bytes .entry)) xs e) × (now (place .exit) ≡ now (place .entry))) ⌝ }
+{
+    let mut records = Vec::new(heap);
+    let sheet = read_records(bytes, heap, &mut records)?;
+    *place = sheet;
+    Ok(())
+}
+
+/// The sheet that a place holds at first: the invariant is true, and the height bound is 0.
+pub fn smallest(heap: Global) -> Result<Sheet, AllocError>
+    ensures { λ r. ⌜ made r (λ s. sheetOf s ≡ smallest) ⌝ }
+{
+    let mut draft = Draft::new(heap);
+    draft.add(Record::Formula(Formula::True))?;
+    draft.add(Record::Invariant(0))?;
+    draft.add(Record::Bound(0))?;
     Ok(draft.into_sheet())
 }
