@@ -1,9 +1,6 @@
-pub mod Decode
 pub mod Entries
 pub mod Format
 pub mod Grow
-pub mod Outcome
-pub mod Progress
 pub mod Rules
 pub mod System
 pub mod View

@@ -6,18 +6,13 @@ use Rattle.std.specs.Of.Vec.{vec-items}
 use Rattle.std.specs.declared.option.Option.{Option}
 use Rattle.std.specs.declared.option.Option.the-variants.{Some}
 use Rattle.sheet.specs.declared.parts.Parts.{Parts}
-use Rattle.sheet.specs.declared.sheet.Draft.{Draft}
 use Rattle.sheet.specs.declared.sheet.Sheet.{Sheet}
 use Rattle.sheet.specs.Entries.{termIn, termInfoIn, formulaIn, formulaInfoIn}
 use Rattle.sheet.specs.Rules.{termInfos, formulaInfos}
-use Rattle.sheet.specs.System.{System, add}
-use Rattle.sheet.specs.declared.syntax.Record.{Record}
+use Rattle.sheet.specs.System.{System}
 
 abbrev pub systemOf : Parts → Option ℕ → Option ℕ → System
 systemOf p v h = record { bits = vec-items (p .bits); symbols = vec-items (p .symbols); readings = vec-items (p .readings); inputs = p .inputs; terms = map termIn (vec-items (p .terms)); questions = vec-items (p .questions); claims = vec-items (p .claims); formulas = map formulaIn (vec-items (p .formulas)); choices = vec-items (p .choices); invariant = v; bound = h }
-
-abbrev pub draftOf : Draft → System
-draftOf d = systemOf (d .parts) (d .invariant) (d .bound)
 
 abbrev pub sheetOf : Sheet → System
 sheetOf s = systemOf (s .parts) (Some (s .invariant)) (Some (s .bound))
@@ -26,8 +21,3 @@ sheetOf s = systemOf (s .parts) (Some (s .invariant)) (Some (s .bound))
 pub record Informed (p : Parts) : Type 0 where
   pub terms : map termInfoIn (vec-items (p .terms)) ≡ termInfos (map termIn (vec-items (p .terms)))
   pub formulas : map formulaInfoIn (vec-items (p .formulas)) ≡ formulaInfos (map formulaIn (vec-items (p .formulas)))
-
--- e is d with what the record adds
-pub record Added (d : Draft) (x : Record) (e : Draft) : Type 0 where
-  pub system : draftOf e ≡ add (draftOf d) x
-  pub informed : Informed (e .parts)

@@ -9,13 +9,13 @@ use crate::syntax::TermEntry;
 /// The things of each letter by number; symbols by their arities.
 #[derive(Drop)]
 pub struct Parts {
-    pub(crate) bits: Vec<Bit>,
-    pub(crate) symbols: Vec<u8>,
-    pub(crate) readings: Vec<Reading>,
-    pub(crate) inputs: u8,
-    pub(crate) terms: Vec<TermEntry>,
-    pub(crate) questions: Vec<Equation>,
-    pub(crate) claims: Vec<Equation>,
-    pub(crate) formulas: Vec<FormulaEntry>,
-    pub(crate) choices: Vec<Choice>,
+    pub bits: Vec<Bit>,
+    pub symbols: Vec<u8>,
+    pub readings: Vec<Reading>,
+    pub inputs: u8,
+    pub terms: Vec<TermEntry>,
+    pub questions: Vec<Equation>,
+    pub claims: Vec<Equation>,
+    pub formulas: Vec<FormulaEntry>,
+    pub choices: Vec<Choice>,
 }

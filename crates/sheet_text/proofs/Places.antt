@@ -12,7 +12,7 @@ use Rattle.sheet.specs.Format.{letter, bodyLength, kindOf, bodyOf, written, wri
 use Rattle.sheet.specs.declared.kind.Kind.{Kind}
 use Rattle.sheet_text.specs.Lines.{lineOf, linesOf, okLine}
 use Rattle.std.specs.Written.{decimal}
-use Rattle.sheet.proofs.Decoding.{body-length}
+use Rattle.reader.proofs.Decoding.{body-length}
 
 pub glued : (t f n e t₁ t₂ t₃ : List ℕ) → t₁ ≡ t ++ f → t₂ ≡ t₁ ++ n → t₃ ≡ t₂ ++ e → t₃ ≡ t ++ ((f ++ n) ++ e)
 glued t f n e t₁ t₂ t₃ p q r =

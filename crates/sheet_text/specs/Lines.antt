@@ -12,7 +12,7 @@ use Rattle.fault.specs.Values.{textOf}
 use Rattle.sheet.specs.declared.kind.Kind.{Kind}
 use Rattle.sheet.specs.declared.syntax.Record.{Record}
 use Rattle.sheet.specs.Format.{letter, kindOf, bodyOf, written, writtenAll}
-use Rattle.sheet.specs.Outcome.{Accepted, Faulty}
+use Rattle.reader.specs.Outcome.{Accepted, Faulty}
 use Rattle.sheet.specs.System.{System}
 
 -- each number after a space

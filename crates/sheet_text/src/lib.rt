@@ -13,9 +13,9 @@ ghost use Rattle.sheet_text.specs.Lines.{numbersOf, lineOf, linesOf, okLine, L
 use fault::Failure;
 use fault::Fault;
 use fault::FaultDisplay;
+use reader::read_records;
 use sheet::Kind;
 use sheet::Record;
-use sheet::read_records;
 use std::alloc::AllocError;
 use std::alloc::Global;
 

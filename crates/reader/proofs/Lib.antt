@@ -1,0 +1,3 @@
+pub mod Decoding
+pub mod Judgement
+pub mod Progressing

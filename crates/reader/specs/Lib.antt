@@ -1,0 +1,4 @@
+pub mod Decode
+pub mod Drafts
+pub mod Outcome
+pub mod Progress
