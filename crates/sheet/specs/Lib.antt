@@ -1,6 +1,9 @@
 pub mod Entries
 pub mod Format
 pub mod Grow
+pub mod Memo
 pub mod Rules
+pub mod Runs
 pub mod System
+pub mod Truth
 pub mod View

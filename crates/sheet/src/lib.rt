@@ -5,6 +5,7 @@ mod letters;
 pub mod parts;
 pub mod sheet;
 pub mod syntax;
+mod truth;
 
 pub use kind::Kind;
 pub use parts::Parts;
