@@ -1,6 +1,7 @@
 pub mod Entries
 pub mod Format
 pub mod Grow
+pub mod Lawful
 pub mod Memo
 pub mod Rules
 pub mod Runs
