@@ -1,3 +1,5 @@
 pub mod Decoding
+pub mod Exact
 pub mod Judgement
+pub mod Orders
 pub mod Progressing

@@ -1,4 +1,5 @@
 pub mod Decode
 pub mod Drafts
+pub mod Law
 pub mod Outcome
 pub mod Progress
