@@ -1,3 +1,4 @@
+pub mod Canon
 pub mod Decoding
 pub mod Exact
 pub mod Judgement

@@ -1,3 +1,4 @@
+pub mod Canonical
 pub mod Decode
 pub mod Drafts
 pub mod Law
