@@ -1,0 +1,3 @@
+mod Firsts
+mod Fitting
+mod Products

@@ -1,0 +1,4 @@
+mod Fronts
+mod Laws
+mod Numbers
+mod Sequences

@@ -1,0 +1,4 @@
+pub mod Directive
+pub mod Grammar
+pub mod Reading
+pub mod Text

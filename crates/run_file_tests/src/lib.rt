@@ -1,0 +1,3 @@
+//! Run files that are read, and one for each problem.
+#[cfg(test)]
+mod tests;
