@@ -196,3 +196,56 @@ module _ (s : System) (l : Lawful s) where
       let more′ : Leads (things (done ++ b ∷ map bareBit rest) r₁ None None) (nextBitRecords (suc (length done)) rest) (things (s .bits) r₁ None None) =
         subst (λ n. Leads (things (done ++ b ∷ map bareBit rest) r₁ None None) (nextBitRecords n rest) (things (s .bits) r₁ None None)) (omega (arith, length-append done (b ∷ []))) (subst (λ bs. Leads (things bs r₁ None None) (nextBitRecords (length (done ++ b ∷ [])) rest) (things (s .bits) r₁ None None)) regroup more) in
       leads-append (things (done ++ map bareBit (b ∷ rest)) r₁ None None) (things (done ++ b ∷ map bareBit rest) r₁ None None) (things (s .bits) r₁ None None) (givenRecord (λ f. Record.NextBit (length done) f) (b .next)) (nextBitRecords (suc (length done)) rest) first more′
+
+  reading-given : (done rest : List Reading) (b : Reading) → done ++ b ∷ rest ≡ s .readings → Leads (things (s .bits) (done ++ map bareReading (b ∷ rest)) None None) (givenRecord (λ f. Record.NextReading (length done) f) (b .next)) (things (s .bits) (done ++ b ∷ map bareReading rest) None None)
+  reading-given done rest b e = by-next (b .next) refl
+    where
+      lengths : length (done ++ map bareReading (b ∷ rest)) ≡ length (s .readings)
+      lengths = omega (arith, sym (ap length e), length-append done (map bareReading (b ∷ rest)), length-append done (b ∷ rest), length-map rest bareReading)
+      here : getD (done ++ map bareReading (b ∷ rest)) (length done) noReading ≡ bareReading b
+      here = getD-at done (bareReading b) (map bareReading rest) noReading (length done) refl
+      by-next : (o : Option ℕ) → b .next ≡ o → Leads (things (s .bits) (done ++ map bareReading (b ∷ rest)) None None) (givenRecord (λ f. Record.NextReading (length done) f) o) (things (s .bits) (done ++ b ∷ map bareReading rest) None None)
+      by-next None n = record { order = tt; ends = ap (λ (x : Reading). things (s .bits) (done ++ x ∷ map bareReading rest) None None) (let q : bareReading b ≡ b = bare-reading b n in q) }
+      by-next (Some f) n =
+          let h = named 0 (Record.NextReading (length done) f) (subst (λ o. given (λ g. obeysAt s 0 (Record.NextReading (length done) g)) o ≡ true) n (tested (λ m y. given (λ g. obeysAt s 0 (Record.NextReading m g)) (y .next)) (s .readings) done b rest e (l .each .nextReadings))) in
+          record { order = (ap (λ m. ltb (length done) m && ltb f (length (s .choices))) lengths ∙ h, ap (λ (x : Reading). not (isSome (x .next))) here, tt); ends = ap (λ bs. things (s .bits) bs None None) (ap (λ (x : Reading). set (done ++ map bareReading (b ∷ rest)) (length done) (record { start = x .start; next = Some f })) here ∙ (set-at done (bareReading b) (map bareReading rest) (record { start = b .start; next = Some f }) (length done) refl ∙ ap (λ (x : Reading). done ++ x ∷ map bareReading rest) (given-reading b f n))) }
+
+  readings-given-from : (done rest : List Reading) → done ++ rest ≡ s .readings → Leads (things (s .bits) (done ++ map bareReading rest) None None) (nextReadingRecords (length done) rest) (things (s .bits) (s .readings) None None)
+  readings-given-from done [] e = record { order = tt; ends = ap (λ b. things (s .bits) b None None) e }
+  readings-given-from done (b ∷ rest) e =
+      let first = reading-given done rest b e in
+      let regroup = append-assoc done (b ∷ []) (map bareReading rest) in
+      let more = readings-given-from (done ++ b ∷ []) rest (append-assoc done (b ∷ []) rest ∙ e) in
+      let more′ : Leads (things (s .bits) (done ++ b ∷ map bareReading rest) None None) (nextReadingRecords (suc (length done)) rest) (things (s .bits) (s .readings) None None) =
+        subst (λ n. Leads (things (s .bits) (done ++ b ∷ map bareReading rest) None None) (nextReadingRecords n rest) (things (s .bits) (s .readings) None None)) (omega (arith, length-append done (b ∷ []))) (subst (λ bs. Leads (things (s .bits) bs None None) (nextReadingRecords (length (done ++ b ∷ [])) rest) (things (s .bits) (s .readings) None None)) regroup more) in
+      leads-append (things (s .bits) (done ++ map bareReading (b ∷ rest)) None None) (things (s .bits) (done ++ b ∷ map bareReading rest) None None) (things (s .bits) (s .readings) None None) (givenRecord (λ f. Record.NextReading (length done) f) (b .next)) (nextReadingRecords (suc (length done)) rest) first more′
+
+  invariant-given : Leads (things (s .bits) (s .readings) None None) (givenRecord (λ f. Record.Invariant f) (s .invariant)) (things (s .bits) (s .readings) (s .invariant) None)
+  invariant-given = by-given (s .invariant) (l .each .invariant)
+    where
+      by-given : (o : Option ℕ) → given (λ f. obeysAt s 0 (Record.Invariant f)) o ≡ true → Leads (things (s .bits) (s .readings) None None) (givenRecord (λ f. Record.Invariant f) o) (things (s .bits) (s .readings) o None)
+      by-given None h = record { order = tt; ends = refl }
+      by-given (Some f) h = record { order = (named 0 (Record.Invariant f) h, refl, tt); ends = refl }
+
+  bound-given : Leads (things (s .bits) (s .readings) (s .invariant) None) (givenRecord (λ h. Record.Bound h) (s .bound)) s
+  bound-given = by-given (s .bound) (l .each .bound)
+    where
+      by-given : (o : Option ℕ) → given (λ h. obeysAt s 0 (Record.Bound h)) o ≡ true → Leads (things (s .bits) (s .readings) (s .invariant) None) (givenRecord (λ h. Record.Bound h) o) (things (s .bits) (s .readings) (s .invariant) o)
+      by-given None h = record { order = tt; ends = refl }
+      by-given (Some n) h = record { order = (refl, refl, tt); ends = refl }
+
+  -- all of them, from the last to the first
+  from-invariant : Leads (things (s .bits) (s .readings) None None) (givenRecord (λ f. Record.Invariant f) (s .invariant) ++ givenRecord (λ h. Record.Bound h) (s .bound)) s
+  from-invariant = leads-append _ _ _ _ _ invariant-given bound-given
+
+  from-next-values : Leads (things b₁ r₁ None None) (nextBitRecords 0 (s .bits) ++ (nextReadingRecords 0 (s .readings) ++ (givenRecord (λ f. Record.Invariant f) (s .invariant) ++ givenRecord (λ h. Record.Bound h) (s .bound)))) s
+  from-next-values = leads-append _ _ _ _ _ (bits-given-from [] (s .bits) refl) (leads-append _ _ _ _ _ (readings-given-from [] (s .readings) refl) from-invariant)
+
+  from-questions : Leads (stage b₁ (s .symbols) r₁ (s .inputs) (s .terms) [] [] [] [] None None) (map questionRecord (s .questions) ++ (map claimRecord (s .claims) ++ (map formulaRecord (s .formulas) ++ (map choiceRecord (s .choices) ++ (nextBitRecords 0 (s .bits) ++ (nextReadingRecords 0 (s .readings) ++ (givenRecord (λ f. Record.Invariant f) (s .invariant) ++ givenRecord (λ h. Record.Bound h) (s .bound)))))))) s
+  from-questions = leads-append _ _ _ _ _ questions-next (leads-append _ _ _ _ _ claims-next (leads-append _ _ _ _ _ formulas-next (leads-append _ _ _ _ _ choices-next from-next-values)))
+
+  all-records : Leads nothing (recordsOf s) s
+  all-records = leads-append _ _ _ _ _ bits-first (leads-append _ _ _ _ _ symbols-next (leads-append _ _ _ _ _ readings-next (leads-append _ _ _ _ _ inputs-next (leads-append _ _ _ _ _ terms-next from-questions))))
+
+  pub written-out-describes : WrittenAs (writtenOut s) s
+  written-out-describes = record { records = recordsOf s; is = refl; order = all-records .order; describes = all-records .ends }
