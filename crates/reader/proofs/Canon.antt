@@ -179,8 +179,10 @@ module _ (s : System) (l : Lawful s) where
     where
       lengths : length (done ++ map bareBit (b ∷ rest)) ≡ length (s .bits)
       lengths = omega (arith, sym (ap length e), length-append done (map bareBit (b ∷ rest)), length-append done (b ∷ rest), length-map rest bareBit)
+
       here : getD (done ++ map bareBit (b ∷ rest)) (length done) noBit ≡ bareBit b
       here = getD-at done (bareBit b) (map bareBit rest) noBit (length done) refl
+
       by-next : (o : Option ℕ) → b .next ≡ o → Leads (things (done ++ map bareBit (b ∷ rest)) r₁ None None) (givenRecord (λ f. Record.NextBit (length done) f) o) (things (done ++ b ∷ map bareBit rest) r₁ None None)
       by-next None n = record { order = tt; ends = ap (λ (x : Bit). things (done ++ x ∷ map bareBit rest) r₁ None None) (let q : bareBit b ≡ b = bare-bit b n in q) }
       by-next (Some f) n =
@@ -194,7 +196,7 @@ module _ (s : System) (l : Lawful s) where
       let regroup = append-assoc done (b ∷ []) (map bareBit rest) in
       let more = bits-given-from (done ++ b ∷ []) rest (append-assoc done (b ∷ []) rest ∙ e) in
       let more′ : Leads (things (done ++ b ∷ map bareBit rest) r₁ None None) (nextBitRecords (suc (length done)) rest) (things (s .bits) r₁ None None) =
-        subst (λ n. Leads (things (done ++ b ∷ map bareBit rest) r₁ None None) (nextBitRecords n rest) (things (s .bits) r₁ None None)) (omega (arith, length-append done (b ∷ []))) (subst (λ bs. Leads (things bs r₁ None None) (nextBitRecords (length (done ++ b ∷ [])) rest) (things (s .bits) r₁ None None)) regroup more) in
+      subst (λ n. Leads (things (done ++ b ∷ map bareBit rest) r₁ None None) (nextBitRecords n rest) (things (s .bits) r₁ None None)) (omega (arith, length-append done (b ∷ []))) (subst (λ bs. Leads (things bs r₁ None None) (nextBitRecords (length (done ++ b ∷ [])) rest) (things (s .bits) r₁ None None)) regroup more) in
       leads-append (things (done ++ map bareBit (b ∷ rest)) r₁ None None) (things (done ++ b ∷ map bareBit rest) r₁ None None) (things (s .bits) r₁ None None) (givenRecord (λ f. Record.NextBit (length done) f) (b .next)) (nextBitRecords (suc (length done)) rest) first more′
 
   reading-given : (done rest : List Reading) (b : Reading) → done ++ b ∷ rest ≡ s .readings → Leads (things (s .bits) (done ++ map bareReading (b ∷ rest)) None None) (givenRecord (λ f. Record.NextReading (length done) f) (b .next)) (things (s .bits) (done ++ b ∷ map bareReading rest) None None)
@@ -202,8 +204,10 @@ module _ (s : System) (l : Lawful s) where
     where
       lengths : length (done ++ map bareReading (b ∷ rest)) ≡ length (s .readings)
       lengths = omega (arith, sym (ap length e), length-append done (map bareReading (b ∷ rest)), length-append done (b ∷ rest), length-map rest bareReading)
+
       here : getD (done ++ map bareReading (b ∷ rest)) (length done) noReading ≡ bareReading b
       here = getD-at done (bareReading b) (map bareReading rest) noReading (length done) refl
+
       by-next : (o : Option ℕ) → b .next ≡ o → Leads (things (s .bits) (done ++ map bareReading (b ∷ rest)) None None) (givenRecord (λ f. Record.NextReading (length done) f) o) (things (s .bits) (done ++ b ∷ map bareReading rest) None None)
       by-next None n = record { order = tt; ends = ap (λ (x : Reading). things (s .bits) (done ++ x ∷ map bareReading rest) None None) (let q : bareReading b ≡ b = bare-reading b n in q) }
       by-next (Some f) n =
@@ -217,7 +221,7 @@ module _ (s : System) (l : Lawful s) where
       let regroup = append-assoc done (b ∷ []) (map bareReading rest) in
       let more = readings-given-from (done ++ b ∷ []) rest (append-assoc done (b ∷ []) rest ∙ e) in
       let more′ : Leads (things (s .bits) (done ++ b ∷ map bareReading rest) None None) (nextReadingRecords (suc (length done)) rest) (things (s .bits) (s .readings) None None) =
-        subst (λ n. Leads (things (s .bits) (done ++ b ∷ map bareReading rest) None None) (nextReadingRecords n rest) (things (s .bits) (s .readings) None None)) (omega (arith, length-append done (b ∷ []))) (subst (λ bs. Leads (things (s .bits) bs None None) (nextReadingRecords (length (done ++ b ∷ [])) rest) (things (s .bits) (s .readings) None None)) regroup more) in
+      subst (λ n. Leads (things (s .bits) (done ++ b ∷ map bareReading rest) None None) (nextReadingRecords n rest) (things (s .bits) (s .readings) None None)) (omega (arith, length-append done (b ∷ []))) (subst (λ bs. Leads (things (s .bits) bs None None) (nextReadingRecords (length (done ++ b ∷ [])) rest) (things (s .bits) (s .readings) None None)) regroup more) in
       leads-append (things (s .bits) (done ++ map bareReading (b ∷ rest)) None None) (things (s .bits) (done ++ b ∷ map bareReading rest) None None) (things (s .bits) (s .readings) None None) (givenRecord (λ f. Record.NextReading (length done) f) (b .next)) (nextReadingRecords (suc (length done)) rest) first more′
 
   invariant-given : Leads (things (s .bits) (s .readings) None None) (givenRecord (λ f. Record.Invariant f) (s .invariant)) (things (s .bits) (s .readings) (s .invariant) None)

@@ -6,6 +6,8 @@ use mathlib.Core.Logic.{_⊎_, inl, inr}
 use Prim.Native.Nat.{ℕ, _+_, _≤_, _<_}
 use native.Mathlib.Omega.{arith}
 use lib.ListN.{length, length-append}
+use Rattle.fault.specs.declared.Failure.{Failure}
+use Rattle.fault.specs.declared.Fault.{Fault}
 use Rattle.fault.specs.declared.Place.{Place}
 use Rattle.fault.specs.declared.SheetFault.{SheetFault}
 use Rattle.fault.specs.declared.SheetFault.the-variants.{Truncated, UnknownLetter, BadBody, TooMany, Repeated, Incomplete, TrailingBytes}
@@ -18,8 +20,13 @@ use Rattle.sheet.specs.Lawful.{Lawful}
 use Rattle.sheet.specs.Rules.{room, obeys, fresh, keeps}
 use Rattle.sheet.specs.System.{System, nothing, add, gather, describe}
 use Rattle.reader.specs.Decode.{decoded}
-use Rattle.reader.specs.Law.{InOrder, WrittenAs, Describe, ReadAs}
-use Rattle.reader.specs.Outcome.{Allowed, AllAllowed, complete, Cut, Unknown, Full, Unlawful, Again, Unfinished, Overlong, Stops, FaultyAt, Accepted}
+use Rattle.reader.specs.Law.{InOrder, WrittenAs, Describe, ReadAs, Refused}
+use Rattle.reader.specs.Canonical.{writtenOut}
+use Rattle.reader.specs.Drafts.{draftOf}
+use Rattle.reader.specs.Progress.{Ended}
+use Rattle.reader.specs.declared.draft.Draft.{Draft}
+use Rattle.reader.specs.Outcome.{Allowed, AllAllowed, complete, Cut, Unknown, Full, Unlawful, Again, Unfinished, Overlong, Stops, FaultyAt, Failed, Accepted}
+use Rattle.reader.proofs.Canon.{written-out-describes}
 use Rattle.reader.proofs.Decoding.{decode-finds, letter-same, body-length}
 use Rattle.reader.proofs.Judgement.{obeys-keeps}
 use Rattle.reader.proofs.Orders.{lawful-nothing, all-lawful, in-order, all-allowed}
@@ -157,3 +164,17 @@ accepted-read bytes xs s a =
 pub faulty-refused : (bytes : List ℕ) (xs : List Record) (f : SheetFault) (p : Place) → FaultyAt bytes xs f p → (s : System) → Describe bytes s → ⊥
 faulty-refused bytes xs f p b s d =
     no-fault nothing xs (d .written .records) (b .rest) f (sym (b .is) ∙ d .written .is) (b .allowed) (describe-allowed bytes s d (d .written)) (subst (λ t. complete t ≡ true) (sym (d .written .describes)) (d .whole)) (b .stops)
+
+pub failed-refused : (bytes : List ℕ) (xs : List Record) (e : Failure) → Failed bytes xs e → Refused bytes e
+failed-refused bytes xs (Failure.Fault (Fault.Sheet f p)) b = faulty-refused bytes xs f p b
+failed-refused bytes xs (Failure.Fault (Fault.Table f)) b = absurd b
+failed-refused bytes xs (Failure.Fault (Fault.Bench f)) b = absurd b
+failed-refused bytes xs (Failure.Fault (Fault.Model f)) b = absurd b
+failed-refused bytes xs Failure.Memory b = tt
+
+pub written-out-back : (s : System) → Lawful s → complete s ≡ true → Describe (writtenOut s) s
+written-out-back s l w = record { lawful = l; whole = w; written = written-out-describes s l }
+
+-- the draft at the end record is that of a lawful sheet
+pub ended-lawful : (bytes : List ℕ) (d : Draft) (xs : List Record) → Ended bytes d xs → Lawful (draftOf d)
+ended-lawful bytes d xs e = subst Lawful (sym (e .system)) (all-lawful nothing xs lawful-nothing (e .allowed))

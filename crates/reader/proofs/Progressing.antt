@@ -18,7 +18,7 @@ use Rattle.reader.specs.Outcome.{Allowed, AllAllowed, FaultyAt, Stops, complet
 use Rattle.reader.specs.Progress.{KindAt, CutAt, NoKindAt, ReadTo, Ended}
 use Rattle.sheet.specs.System.{System, nothing, add, gather, describe}
 use Rattle.reader.specs.Drafts.{draftOf, Added}
-use Rattle.sheet.specs.View.{Informed}
+use Rattle.sheet.specs.Stored.{Informed}
 use Rattle.reader.proofs.Decoding.{body-length}
 use Rattle.reader.proofs.Judgement.{Good, Refused, Says, kind-is, judge-says, obeys-keeps}
 use Rattle.sheet.specs.Rules.{keeps}

@@ -3,7 +3,7 @@ use mathlib.Core.Path.{_≡_}
 use Rattle.reader.specs.declared.draft.Draft.{Draft}
 use Rattle.sheet.specs.declared.syntax.Record.{Record}
 use Rattle.sheet.specs.System.{System, add}
-use Rattle.sheet.specs.View.{systemOf, Informed}
+use Rattle.sheet.specs.Stored.{systemOf, Informed}
 
 abbrev pub draftOf : Draft → System
 draftOf d = systemOf (d .parts) (d .invariant) (d .bound)

@@ -15,7 +15,7 @@ use Rattle.sheet.specs.Format.{letter, bodyLength, writtenAll}
 use Rattle.reader.specs.Outcome.{AllAllowed, complete}
 use Rattle.sheet.specs.System.{nothing, describe}
 use Rattle.reader.specs.Drafts.{draftOf}
-use Rattle.sheet.specs.View.{Informed}
+use Rattle.sheet.specs.Stored.{Informed}
 
 -- a record of this kind stands at the place, and is whole
 pub record KindAt (bytes : List ℕ) (at : ℕ) (k : Kind) : Type 0 where

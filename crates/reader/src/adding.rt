@@ -5,7 +5,7 @@ ghost use Rattle.std.specs.Vec.{made};
 ghost use Rattle.sheet.specs.Rules.{keeps, room};
 ghost use Rattle.sheet.specs.Format.{kindOf};
 ghost use Rattle.reader.specs.Drafts.{draftOf, Added};
-ghost use Rattle.sheet.specs.View.{Informed};
+ghost use Rattle.sheet.specs.Stored.{Informed};
 use crate::draft::Draft;
 use sheet::Bit;
 use sheet::Choice;

@@ -9,11 +9,15 @@ ghost use Rattle.std.specs.Options.{Cases as BySome};
 ghost use Rattle.std.specs.Results.{Cases};
 ghost use Rattle.std.specs.Vec.{made};
 ghost use Rattle.sheet.specs.Format.{letter};
+ghost use Rattle.reader.specs.Canonical.{writtenOut};
+ghost use Rattle.reader.specs.Law.{Describe, ReadAs, Refused};
 ghost use Rattle.reader.specs.Outcome.{Accepted, complete, Failed, FaultyAt};
 ghost use Rattle.reader.specs.Progress.{KindAt, NoKindAt, ReadTo, Ended};
 ghost use Rattle.reader.specs.Drafts.{draftOf};
-ghost use Rattle.sheet.specs.View.{sheetOf, Informed};
-ghost use Rattle.sheet.specs.System.{nothing, smallest};
+ghost use Rattle.sheet.specs.Stored.{Informed};
+ghost use Rattle.sheet.specs.View.{sheetOf};
+ghost use Rattle.sheet.specs.Lawful.{Lawful};
+ghost use Rattle.sheet.specs.System.{System, nothing, smallest};
 use crate::draft::Draft;
 use fault::Failure;
 use fault::FailureFromAlloc;
@@ -123,7 +127,9 @@ impl Draft {
     }
 
     fn into_sheet(self) -> Sheet
-        requires { ⌜ complete (draftOf self) ≡ true ⌝ }
+        requires whole { ⌜ complete (draftOf self) ≡ true ⌝ }
+        requires lawful { ⌜ Lawful (draftOf self) ⌝ }
+        requires informed { ⌜ Informed (self .parts) ⌝ }
         ensures { λ s. ⌜ sheetOf s ≡ draftOf self ⌝ }
     {
         let Draft {
@@ -156,13 +162,21 @@ pub fn read_records(bytes: &[u8], heap: Global, records: &mut Vec<Record>) -> Re
 }
 
 /// Reads a sheet into the caller's place, which keeps its earlier sheet unless the bytes are a whole one.
+/// The first clause says which records were read and which fault was met first, and the second what that
+/// is for: a sheet is read exactly when the bytes describe it.
 pub fn read(bytes: &[u8], heap: Global, place: &mut Sheet) -> Result<(), Failure>
-    ensures { λ r. ⌜ Cases r (λ _. (xs : List Record) × Accepted (now (bytes .entry)) xs (sheetOf (now (place .exit)))) (λ e. ((xs : List Record) × Failed (now (bytes .entry)) xs e) × (now (place .exit) ≡ now (place .entry))) ⌝ }
+    ensures first { λ r. ⌜ Cases r (λ _. (xs : List Record) × Accepted (now (bytes .entry)) xs (sheetOf (now (place .exit)))) (λ e. ((xs : List Record) × Failed (now (bytes .entry)) xs e) × (now (place .exit) ≡ now (place .entry))) ⌝ }
+    ensures exact { λ r. ⌜ Cases r (λ _. ReadAs (now (bytes .entry)) (sheetOf (now (place .exit)))) (λ e. Refused (now (bytes .entry)) e) ⌝ }
+    ensures back { λ _. ⌜ ((s : System) → Lawful s → complete s ≡ true → Describe (writtenOut s) s) ⌝ }
 {
     let mut records = Vec::new(heap);
-    let sheet = read_records(bytes, heap, &mut records)?;
-    *place = sheet;
-    Ok(())
+    match read_records(bytes, heap, &mut records) {
+        Ok(sheet) => {
+            *place = sheet;
+            Ok(())
+        }
+        Err(failure) => Err(failure),
+    }
 }
 
 /// The sheet that a place holds at first: the invariant is true, and the height bound is 0.

@@ -15,7 +15,7 @@ use Rattle.std.specs.declared.option.Option.the-variants.{Some, None}
 use Rattle.sheet.specs.declared.syntax.Choice.{Choice}
 use Rattle.sheet.specs.declared.syntax.Formula.{Formula}
 use Rattle.sheet.specs.declared.syntax.FormulaEntry.{FormulaEntry}
-use Rattle.sheet.specs.Entries.{formulaIn}
+use Rattle.sheet.specs.Stored.{formulaIn}
 use Rattle.sheet.specs.Grow.{grow}
 use Rattle.sheet.specs.Memo.{Remembers, before, operandsOf, connected, grounded}
 use Rattle.sheet.specs.Truth.{truthOf, truths, termOfChoice, chosen}

@@ -1,10 +1,10 @@
-pub mod Entries
 pub mod Format
 pub mod Grow
 pub mod Lawful
 pub mod Memo
 pub mod Rules
 pub mod Runs
+pub mod Stored
 pub mod System
 pub mod Truth
 pub mod View

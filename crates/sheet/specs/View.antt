@@ -1,23 +1,8 @@
--- The transition system that a sheet's memory stands for. Assumes nothing.
-use mathlib.Core.Path.{_≡_}
-use mathlib.Core.List.{map}
-use Prim.Native.Nat.{ℕ}
-use Rattle.std.specs.Of.Vec.{vec-items}
-use Rattle.std.specs.declared.option.Option.{Option}
+-- The transition system that a sheet stands for. Assumes nothing.
 use Rattle.std.specs.declared.option.Option.the-variants.{Some}
-use Rattle.sheet.specs.declared.parts.Parts.{Parts}
 use Rattle.sheet.specs.declared.sheet.Sheet.{Sheet}
-use Rattle.sheet.specs.Entries.{termIn, termInfoIn, formulaIn, formulaInfoIn}
-use Rattle.sheet.specs.Rules.{termInfos, formulaInfos}
+use Rattle.sheet.specs.Stored.{systemOf}
 use Rattle.sheet.specs.System.{System}
-
-abbrev pub systemOf : Parts → Option ℕ → Option ℕ → System
-systemOf p v h = record { bits = vec-items (p .bits); symbols = vec-items (p .symbols); readings = vec-items (p .readings); inputs = p .inputs; terms = map termIn (vec-items (p .terms)); questions = vec-items (p .questions); claims = vec-items (p .claims); formulas = map formulaIn (vec-items (p .formulas)); choices = vec-items (p .choices); invariant = v; bound = h }
 
 abbrev pub sheetOf : Sheet → System
 sheetOf s = systemOf (s .parts) (Some (s .invariant)) (Some (s .bound))
-
--- what is stored with each term and formula is what the rules say of it
-pub record Informed (p : Parts) : Type 0 where
-  pub terms : map termInfoIn (vec-items (p .terms)) ≡ termInfos (map termIn (vec-items (p .terms)))
-  pub formulas : map formulaInfoIn (vec-items (p .formulas)) ≡ formulaInfos (map formulaIn (vec-items (p .formulas)))

@@ -7,7 +7,7 @@ ghost use Prim.Native.Nat.{ℕ, _<_};
 ghost use lib.Dec.{ltb};
 ghost use lib.ListN.{length, getD, set};
 ghost use Rattle.std.specs.Of.Vec.{vec-items};
-ghost use Rattle.sheet.specs.Entries.{formulaIn};
+ghost use Rattle.sheet.specs.Stored.{formulaIn};
 ghost use Rattle.sheet.specs.Truth.{truthOf, truths, termOfChoice, chosen};
 ghost use Rattle.sheet.specs.Memo.{Remembers, before, operandsOf, connected, grounded};
 ghost use Rattle.std.specs.declared.option.Option.the-variants.{Some, None};

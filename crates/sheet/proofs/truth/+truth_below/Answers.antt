@@ -3,7 +3,7 @@ use mathlib.Core.Bool.{false}
 use mathlib.Core.List.{map}
 use lib.ListN.{getD}
 use Rattle.std.specs.declared.option.Option.the-variants.{None}
-use Rattle.sheet.specs.Entries.{formulaIn}
+use Rattle.sheet.specs.Stored.{formulaIn}
 use Rattle.sheet.specs.Memo.{Remembers}
 use Rattle.sheet.specs.Truth.{truths}
 use Rattle.sheet.proofs.Memos.{noFormula, before-here, before-none, truth-past, truth-connected, truth-grounded, remembers-set}

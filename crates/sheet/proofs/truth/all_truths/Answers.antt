@@ -1,7 +1,7 @@
 use native.Mathlib.Omega.{arith}
 use mathlib.Core.Bool.{false}
 use mathlib.Core.List.{map}
-use Rattle.sheet.specs.Entries.{formulaIn}
+use Rattle.sheet.specs.Stored.{formulaIn}
 use Rattle.sheet.specs.Truth.{truths}
 use Rattle.sheet.proofs.Memos.{filled-more, truths-length}
 use Rattle.sheet.proofs.truth.all_truths.Needs as need

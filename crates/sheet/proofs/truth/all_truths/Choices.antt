@@ -3,7 +3,7 @@ use mathlib.Core.Bool.{false}
 use mathlib.Core.List.{map}
 use Prim.Native.Nat.{ℕ, _<_}
 use lib.ListN.{getD}
-use Rattle.sheet.specs.Entries.{formulaIn}
+use Rattle.sheet.specs.Stored.{formulaIn}
 use Rattle.sheet.specs.Memo.{Remembers}
 use Rattle.sheet.specs.Truth.{truths}
 use Rattle.sheet.proofs.truth.all_truths.Given as given

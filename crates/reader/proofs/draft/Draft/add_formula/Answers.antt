@@ -1,5 +1,5 @@
 use mathlib.Core.Path.{_≡_}
-use Rattle.sheet.specs.Entries.{formulaIn, formulaInfoIn}
+use Rattle.sheet.specs.Stored.{formulaIn, formulaInfoIn}
 use Rattle.sheet.specs.Rules.{formulaInfo}
 use Rattle.sheet.proofs.Growing.{informed-push, nodes-push}
 use Rattle.reader.proofs.draft.Draft.add_formula.Needs as need

@@ -1,5 +1,5 @@
 use mathlib.Core.Path.{_≡_}
-use Rattle.sheet.specs.Entries.{termIn, termInfoIn}
+use Rattle.sheet.specs.Stored.{termIn, termInfoIn}
 use Rattle.sheet.specs.Rules.{termInfo}
 use Rattle.sheet.proofs.Growing.{informed-push, nodes-push}
 use Rattle.reader.proofs.draft.Draft.add_term.Needs as need

@@ -1,5 +1,5 @@
 use mathlib.Core.Path.{_∙_}
-use Rattle.sheet.specs.Entries.{termIn, formulaIn}
+use Rattle.sheet.specs.Stored.{termIn, formulaIn}
 use Rattle.sheet.proofs.Stored.{map-count}
 use Rattle.reader.proofs.draft.Draft.count.Needs as need
 

@@ -1,5 +1,5 @@
 use mathlib.Core.Path.{_∙_}
-use Rattle.sheet.specs.Entries.{formulaInfoIn}
+use Rattle.sheet.specs.Stored.{formulaInfoIn}
 use Rattle.sheet.specs.Rules.{plain}
 use Rattle.sheet.proofs.Stored.{map-read, map-past}
 use Rattle.reader.proofs.draft.Draft.formula_info.Needs as need

@@ -1,5 +1,5 @@
 use mathlib.Core.Path.{_∙_}
-use Rattle.sheet.specs.Entries.{termInfoIn}
+use Rattle.sheet.specs.Stored.{termInfoIn}
 use Rattle.sheet.specs.Rules.{noInfo}
 use Rattle.sheet.proofs.Stored.{map-read, map-past}
 use Rattle.reader.proofs.draft.Draft.term_info.Needs as need

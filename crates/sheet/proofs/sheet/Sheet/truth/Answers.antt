@@ -2,7 +2,7 @@ use mathlib.Core.Path.{ap, _∙_}
 use mathlib.Core.Bool.{false}
 use mathlib.Core.List.{map}
 use lib.ListN.{getD}
-use Rattle.sheet.specs.Entries.{formulaIn}
+use Rattle.sheet.specs.Stored.{formulaIn}
 use Rattle.sheet.specs.Truth.{truths}
 use Rattle.sheet.proofs.Memos.{remembers-none, before-all, truths-length}
 use Rattle.sheet.proofs.sheet.Sheet.truth.Needs as need

@@ -1,0 +1,15 @@
+use mathlib.Core.Path.{refl}
+use Rattle.std.specs.Of.Vec.{vec-items}
+use Rattle.sheet.specs.View.{sheetOf}
+use Rattle.reader.proofs.Exact.{accepted-read, failed-refused, written-out-back}
+use Rattle.reader.proofs.reading.read.Needs as need
+
+pub returns-in-Ok : need.returns-in-Ok
+returns-in-Ok c =
+    let xs = vec-items (c .read-records .last .records) in
+    record { first = (xs, c .in-Ok .ensures tt); exact = accepted-read (c .args .bytes .now) xs (sheetOf (c .in-Ok .sheet)) (c .in-Ok .ensures tt); back = written-out-back }
+
+pub returns : need.returns
+returns c =
+    let xs = vec-items (c .read-records .last .records) in
+    record { first = ((xs, c .in-Err .ensures tt), refl); exact = failed-refused (c .args .bytes .now) xs (c .in-Err .failure) (c .in-Err .ensures tt); back = written-out-back }
