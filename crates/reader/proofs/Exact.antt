@@ -6,8 +6,6 @@ use mathlib.Core.Logic.{_⊎_, inl, inr}
 use Prim.Native.Nat.{ℕ, _+_, _≤_, _<_}
 use native.Mathlib.Omega.{arith}
 use lib.ListN.{length, length-append}
-use Rattle.fault.specs.declared.Failure.{Failure}
-use Rattle.fault.specs.declared.Fault.{Fault}
 use Rattle.fault.specs.declared.Place.{Place}
 use Rattle.fault.specs.declared.SheetFault.{SheetFault}
 use Rattle.fault.specs.declared.SheetFault.the-variants.{Truncated, UnknownLetter, BadBody, TooMany, Repeated, Incomplete, TrailingBytes}
@@ -20,27 +18,27 @@ use Rattle.sheet.specs.Lawful.{Lawful}
 use Rattle.sheet.specs.Rules.{room, obeys, fresh, keeps}
 use Rattle.sheet.specs.System.{System, nothing, add, gather, describe}
 use Rattle.reader.specs.Decode.{decoded}
-use Rattle.reader.specs.Law.{InOrder, WrittenAs, Describe, ReadAs, Refused}
+use Rattle.reader.specs.Law.{InOrder, WrittenAs, Describe, ReadAs}
 use Rattle.reader.specs.Canonical.{writtenOut}
 use Rattle.reader.specs.Drafts.{draftOf}
 use Rattle.reader.specs.Progress.{Ended}
 use Rattle.reader.specs.declared.draft.Draft.{Draft}
-use Rattle.reader.specs.Outcome.{Allowed, AllAllowed, complete, Cut, Unknown, Full, Unlawful, Again, Unfinished, Overlong, Stops, FaultyAt, Failed, Accepted}
+use Rattle.reader.specs.Outcome.{Allowed, AllAllowed, complete, Cut, Unknown, Full, Unlawful, Again, Unfinished, Overlong, Stops, FaultyAt, Accepted}
 use Rattle.reader.proofs.Canon.{written-out-describes}
 use Rattle.reader.proofs.Decoding.{decode-finds, letter-same, body-length}
 use Rattle.reader.proofs.Judgement.{obeys-keeps}
 use Rattle.reader.proofs.Orders.{lawful-nothing, all-lawful, in-order, all-allowed}
 
-none-such : {A : Type 0} → _≡_ {A = ℕ} 0 1 → A
+pub none-such : {A : Type 0} → _≡_ {A = ℕ} 0 1 → A
 none-such e = absurd (omega arith)
 
-tail-same : {A : Type 0} (x y : A) (xs ys : List A) → x ∷ xs ≡ y ∷ ys → xs ≡ ys
+pub tail-same : {A : Type 0} (x y : A) (xs ys : List A) → x ∷ xs ≡ y ∷ ys → xs ≡ ys
 tail-same x y xs ys e = cc
 
-head-same : {A : Type 0} (x y : A) (xs ys : List A) → x ∷ xs ≡ y ∷ ys → x ≡ y
+pub head-same : {A : Type 0} (x y : A) (xs ys : List A) → x ∷ xs ≡ y ∷ ys → x ≡ y
 head-same x y xs ys e = cc
 
-nil-cons : {A : Type 0} {B : Type 0} (x : A) (xs : List A) → [] ≡ x ∷ xs → B
+pub nil-cons : {A : Type 0} {B : Type 0} (x : A) (xs : List A) → [] ≡ x ∷ xs → B
 nil-cons x xs e = let z : _≡_ {A = ℕ} 0 1 = cc in none-such z
 
 -- lists of one length at the front of the same list
@@ -55,7 +53,7 @@ fronts-same (x ∷ xs) (y ∷ ys) cs bs n e =
     ((let q : x ∷ xs ≡ y ∷ ys = cc in q), r .1)
 
 -- no record is the end record
-not-end : (x : Record) → kindOf x ≡ Kind.End → ⊥
+pub not-end : (x : Record) → kindOf x ≡ Kind.End → ⊥
 not-end (Record.Bit b) e = let z : _≡_ {A = ℕ} 0 1 = cc in none-such z
 not-end (Record.Symbol a) e = let z : _≡_ {A = ℕ} 0 1 = cc in none-such z
 not-end (Record.Reading w) e = let z : _≡_ {A = ℕ} 0 1 = cc in none-such z
@@ -74,14 +72,14 @@ not-end-letter : (x : Record) (cs bs : List ℕ) → written x ++ cs ≡ letter 
 not-end-letter x cs bs e = not-end x (letter-same (kindOf x) Kind.End (head-same (letter (kindOf x)) (letter Kind.End) (bodyOf x ++ cs) bs e))
 
 -- a whole record of this kind at the front has the record's body
-body-same : (x : Record) (k : Kind) (body cs bs : List ℕ) → length body ≡ bodyLength k → letter k ∷ (body ++ bs) ≡ written x ++ cs → (k ≡ kindOf x) × (body ≡ bodyOf x) × (bs ≡ cs)
+pub body-same : (x : Record) (k : Kind) (body cs bs : List ℕ) → length body ≡ bodyLength k → letter k ∷ (body ++ bs) ≡ written x ++ cs → (k ≡ kindOf x) × (body ≡ bodyOf x) × (bs ≡ cs)
 body-same x k body cs bs n e =
     let j = letter-same k (kindOf x) (head-same (letter k) (letter (kindOf x)) (body ++ bs) (bodyOf x ++ cs) e) in
     let r = fronts-same body (bodyOf x) bs cs (n ∙ (ap bodyLength j ∙ sym (body-length x))) (tail-same (letter k) (letter (kindOf x)) (body ++ bs) (bodyOf x ++ cs) e) in
     (j, r .0, r .1)
 
 -- two records that obey the rules in one state, at the front of the same bytes
-records-same : (s : System) (x y : Record) (cs bs : List ℕ) → obeys s x ≡ true → obeys s y ≡ true → written x ++ cs ≡ written y ++ bs → (x ≡ y) × (cs ≡ bs)
+pub records-same : (s : System) (x y : Record) (cs bs : List ℕ) → obeys s x ≡ true → obeys s y ≡ true → written x ++ cs ≡ written y ++ bs → (x ≡ y) × (cs ≡ bs)
 records-same s x y cs bs ox oy e =
     let r = body-same y (kindOf x) (bodyOf x) bs cs (body-length x) e in
     let w : written y ≡ letter (kindOf x) ∷ bodyOf x = let p = r .0 in let q = r .1 in cc in
@@ -112,7 +110,7 @@ no-stop-at-end s Incomplete c t =
 no-stop-at-end s TrailingBytes c t = nil-cons (t .byte) (t .more) (tail-same (letter Kind.End) (letter Kind.End) [] (t .byte ∷ t .more) (t .is))
 
 -- no rule stops at a record that is allowed
-no-stop-at-record : (s : System) (y : Record) (bs : List ℕ) (f : SheetFault) → Allowed s y → Stops s (written y ++ bs) f → ⊥
+pub no-stop-at-record : (s : System) (y : Record) (bs : List ℕ) (f : SheetFault) → Allowed s y → Stops s (written y ++ bs) f → ⊥
 no-stop-at-record s y bs Truncated a (inl e) = nil-cons (letter (kindOf y)) (bodyOf y ++ bs) (sym e)
 no-stop-at-record s y bs Truncated a (inr t) =
     let k = letter-same (kindOf y) (t .kind) (head-same (letter (kindOf y)) (letter (t .kind)) (bodyOf y ++ bs) (t .body) (t .is)) in
@@ -164,13 +162,6 @@ accepted-read bytes xs s a =
 pub faulty-refused : (bytes : List ℕ) (xs : List Record) (f : SheetFault) (p : Place) → FaultyAt bytes xs f p → (s : System) → Describe bytes s → ⊥
 faulty-refused bytes xs f p b s d =
     no-fault nothing xs (d .written .records) (b .rest) f (sym (b .is) ∙ d .written .is) (b .allowed) (describe-allowed bytes s d (d .written)) (subst (λ t. complete t ≡ true) (sym (d .written .describes)) (d .whole)) (b .stops)
-
-pub failed-refused : (bytes : List ℕ) (xs : List Record) (e : Failure) → Failed bytes xs e → Refused bytes e
-failed-refused bytes xs (Failure.Fault (Fault.Sheet f p)) b = faulty-refused bytes xs f p b
-failed-refused bytes xs (Failure.Fault (Fault.Table f)) b = absurd b
-failed-refused bytes xs (Failure.Fault (Fault.Bench f)) b = absurd b
-failed-refused bytes xs (Failure.Fault (Fault.Model f)) b = absurd b
-failed-refused bytes xs Failure.Memory b = tt
 
 pub written-out-back : (s : System) → Lawful s → complete s ≡ true → Describe (writtenOut s) s
 written-out-back s l w = record { lawful = l; whole = w; written = written-out-describes s l }

@@ -12,7 +12,7 @@ use Rattle.sheet.specs.Format.{letter, kindOf, writtenAll}
 use Rattle.sheet.specs.Lawful.{Lawful}
 use Rattle.sheet.specs.Rules.{names, count, fresh}
 use Rattle.sheet.specs.System.{System, nothing, add, describe}
-use Rattle.reader.specs.Outcome.{Accepted, complete}
+use Rattle.reader.specs.Outcome.{Faulty, complete}
 
 -- each record names only what earlier records wrote, and gives nothing that an earlier one gave
 abbrev pub InOrder : System → List Record → Type 0
@@ -37,7 +37,11 @@ pub record ReadAs (bytes : List ℕ) (s : System) : Type 0 where
   pub describe : Describe bytes s
   pub only : (t : System) → Describe bytes t → t ≡ s
 
--- a fault means that the bytes describe no sheet
+-- the bytes describe no sheet, and f is the one first fault that they have
+pub record RefusedBy (bytes : List ℕ) (f : Fault) : Type 0 where
+  pub none : (s : System) → Describe bytes s → ⊥
+  pub only : (xs : List Record) (g : Fault) → Faulty bytes xs g → g ≡ f
+
 abbrev pub Refused : List ℕ → Failure → Type 0
-Refused bytes (Failure.Fault f) = (s : System) → Describe bytes s → ⊥
+Refused bytes (Failure.Fault f) = RefusedBy bytes f
 Refused bytes Failure.Memory = Unit {0}

@@ -1,7 +1,8 @@
 use mathlib.Core.Path.{refl}
 use Rattle.std.specs.Of.Vec.{vec-items}
 use Rattle.sheet.specs.View.{sheetOf}
-use Rattle.reader.proofs.Exact.{accepted-read, failed-refused, written-out-back}
+use Rattle.reader.proofs.Exact.{accepted-read, written-out-back}
+use Rattle.reader.proofs.Faults.{failed-refused}
 use Rattle.reader.proofs.reading.read.Needs as need
 
 pub returns-in-Ok : need.returns-in-Ok
