@@ -144,9 +144,9 @@ pub remembers-none : {V : Type 0} (d : V) (values : List V) (n : ℕ) → Rememb
 remembers-none d values n k v e = absurd (none-some (sym (nones n k) ∙ e))
 
 -- one value more of a list that is filled in
-pub filled-more : {V : Type 0} (d : V) (out values : List V) (n count : ℕ) (v : V) → n < length out → count ≡ length values → v ≡ before d values n count → ((k : ℕ) → k < n → getD out k d ≡ getD values k d) → (k : ℕ) → k < n + 1 → getD (set out n v) k d ≡ getD values k d
-filled-more d out values n count v inside all is done =
-    below-more (λ k. getD (set out n v) k d ≡ getD values k d) n (λ k h. getD-set-other out n k v d (λ e. omega arith) ∙ done k h) (getD-set-same out n v d inside ∙ (is ∙ before-all d values n count all))
+pub filled-more : {V : Type 0} (d : V) (out values : List V) (n : ℕ) (v : V) → n < length out → v ≡ getD values n d → ((k : ℕ) → k < n → getD out k d ≡ getD values k d) → (k : ℕ) → k < n + 1 → getD (set out n v) k d ≡ getD values k d
+filled-more d out values n v inside is done =
+    below-more (λ k. getD (set out n v) k d ≡ getD values k d) n (λ k h. getD-set-other out n k v d (λ e. omega arith) ∙ done k h) (getD-set-same out n v d inside ∙ is)
 
 pub truths-length : (bits questions claims : List Bool) (entries : List FormulaEntry) → length entries ≡ length (truths bits questions claims (map formulaIn entries))
 truths-length bits questions claims entries = omega (arith, grow-length (truthOf bits questions claims) [] (map formulaIn entries), length-map entries formulaIn)

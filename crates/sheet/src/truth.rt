@@ -151,6 +151,22 @@ fn choice_below(
     value
 }
 
+// The truth of formula n.
+fn truth_of(
+    formulas: &[FormulaEntry],
+    bits: &[bool],
+    questions: &[bool],
+    claims: &[bool],
+    n: usize,
+    known: &mut [Option<bool>],
+) -> bool
+    requires { ⌜ Remembers false (truths (now bits) (now questions) (now claims) (map formulaIn (now formulas))) (now known) ⌝ }
+    ensures value { λ r. ⌜ r ≡ getD (truths (now (bits .entry)) (now (questions .entry)) (now (claims .entry)) (map formulaIn (now (formulas .entry)))) n false ⌝ }
+    ensures known { λ r. ⌜ Remembers false (truths (now (bits .entry)) (now (questions .entry)) (now (claims .entry)) (map formulaIn (now (formulas .entry)))) (now (known .exit)) ⌝ }
+{
+    truth_below(formulas, bits, questions, claims, n, formulas.len(), known)
+}
+
 fn all_truths(
     formulas: &[FormulaEntry],
     bits: &[bool],
@@ -163,8 +179,17 @@ fn all_truths(
     ensures { λ _. ⌜ ((k : ℕ) → k < length (now (out .entry)) → getD (now (out .exit)) k false ≡ getD (truths (now (bits .entry)) (now (questions .entry)) (now (claims .entry)) (map formulaIn (now (formulas .entry)))) k false) ⌝ }
 {
     for n in 0..out.len() {
-        out[n] = truth_below(formulas, bits, questions, claims, n, formulas.len(), known);
+        out[n] = truth_of(formulas, bits, questions, claims, n, known);
     }
+}
+
+// The term of choice n.
+fn choice_of(choices: &[Choice], truths: &[bool], n: usize, known: &mut [Option<u8>]) -> u8
+    requires { ⌜ Remembers 0 (chosen (λ f. getD (now truths) f false) (now choices)) (now known) ⌝ }
+    ensures value { λ r. ⌜ r ≡ getD (chosen (λ f. getD (now (truths .entry)) f false) (now (choices .entry))) n 0 ⌝ }
+    ensures known { λ r. ⌜ Remembers 0 (chosen (λ f. getD (now (truths .entry)) f false) (now (choices .entry))) (now (known .exit)) ⌝ }
+{
+    choice_below(choices, truths, n, choices.len(), known)
 }
 
 fn all_choices(choices: &[Choice], truths: &[bool], known: &mut [Option<u8>], out: &mut [u8])
@@ -172,7 +197,7 @@ fn all_choices(choices: &[Choice], truths: &[bool], known: &mut [Option<u8>], ou
     ensures { λ _. ⌜ ((k : ℕ) → k < length (now (out .entry)) → getD (now (out .exit)) k 0 ≡ getD (chosen (λ f. getD (now (truths .entry)) f false) (now (choices .entry))) k 0) ⌝ }
 {
     for n in 0..out.len() {
-        out[n] = choice_below(choices, truths, n, choices.len(), known);
+        out[n] = choice_of(choices, truths, n, known);
     }
 }
 
@@ -183,16 +208,8 @@ impl Sheet {
         ensures { λ r. ⌜ r ≡ getD (truths (now (bits .entry)) (now (questions .entry)) (now (claims .entry)) (sheetOf (now (self .entry)) .formulas)) formula false ⌝ }
     {
         let mut known = [None; MOST];
-        let formulas = self.parts.formulas.as_slice();
-        truth_below(
-            formulas,
-            bits,
-            questions,
-            claims,
-            formula as usize,
-            formulas.len(),
-            &mut known,
-        )
+        let all = self.parts.formulas.as_slice();
+        truth_of(all, bits, questions, claims, formula as usize, &mut known)
     }
 
     /// The truth of every formula that has a place in `out`, each worked out once.
@@ -200,14 +217,8 @@ impl Sheet {
         ensures { λ _. ⌜ ((k : ℕ) → k < length (now (out .entry)) → getD (now (out .exit)) k false ≡ getD (truths (now (bits .entry)) (now (questions .entry)) (now (claims .entry)) (sheetOf (now (self .entry)) .formulas)) k false) ⌝ }
     {
         let mut known = [None; MOST];
-        all_truths(
-            self.parts.formulas.as_slice(),
-            bits,
-            questions,
-            claims,
-            &mut known,
-            out,
-        );
+        let all = self.parts.formulas.as_slice();
+        all_truths(all, bits, questions, claims, &mut known, out);
     }
 
     /// The term that a choice comes to, by the truth of the formulas. Past the end it is 0.
@@ -215,8 +226,8 @@ impl Sheet {
         ensures { λ r. ⌜ r ≡ getD (chosen (λ f. getD (now (truths .entry)) f false) (sheetOf (now (self .entry)) .choices)) choice 0 ⌝ }
     {
         let mut known = [None; MOST];
-        let choices = self.parts.choices.as_slice();
-        choice_below(choices, truths, choice as usize, choices.len(), &mut known)
+        let all = self.parts.choices.as_slice();
+        choice_of(all, truths, choice as usize, &mut known)
     }
 
     /// The terms that all choices with a place in `out` come to, each worked out once.
@@ -224,6 +235,7 @@ impl Sheet {
         ensures { λ _. ⌜ ((k : ℕ) → k < length (now (out .entry)) → getD (now (out .exit)) k 0 ≡ getD (chosen (λ f. getD (now (truths .entry)) f false) (sheetOf (now (self .entry)) .choices)) k 0) ⌝ }
     {
         let mut known = [None; MOST];
-        all_choices(self.parts.choices.as_slice(), truths, &mut known, out);
+        let all = self.parts.choices.as_slice();
+        all_choices(all, truths, &mut known, out);
     }
 }
