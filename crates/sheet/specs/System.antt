@@ -49,20 +49,55 @@ bitTo b bits f = set bits b (record { start = getD bits b noBit .start; next = S
 abbrev pub readingTo : ℕ → List Reading → ℕ → List Reading
 readingTo r readings k = set readings r (record { start = getD readings r noReading .start; next = Some k })
 
+-- s with one part replaced
+abbrev withBits : System → List Bit → System
+withBits s x = record { bits = x; symbols = s .symbols; readings = s .readings; inputs = s .inputs; terms = s .terms; questions = s .questions; claims = s .claims; formulas = s .formulas; choices = s .choices; invariant = s .invariant; bound = s .bound }
+
+abbrev withSymbols : System → List ℕ → System
+withSymbols s x = record { bits = s .bits; symbols = x; readings = s .readings; inputs = s .inputs; terms = s .terms; questions = s .questions; claims = s .claims; formulas = s .formulas; choices = s .choices; invariant = s .invariant; bound = s .bound }
+
+abbrev withReadings : System → List Reading → System
+withReadings s x = record { bits = s .bits; symbols = s .symbols; readings = x; inputs = s .inputs; terms = s .terms; questions = s .questions; claims = s .claims; formulas = s .formulas; choices = s .choices; invariant = s .invariant; bound = s .bound }
+
+abbrev withInputs : System → ℕ → System
+withInputs s x = record { bits = s .bits; symbols = s .symbols; readings = s .readings; inputs = x; terms = s .terms; questions = s .questions; claims = s .claims; formulas = s .formulas; choices = s .choices; invariant = s .invariant; bound = s .bound }
+
+abbrev withTerms : System → List Term → System
+withTerms s x = record { bits = s .bits; symbols = s .symbols; readings = s .readings; inputs = s .inputs; terms = x; questions = s .questions; claims = s .claims; formulas = s .formulas; choices = s .choices; invariant = s .invariant; bound = s .bound }
+
+abbrev withQuestions : System → List Equation → System
+withQuestions s x = record { bits = s .bits; symbols = s .symbols; readings = s .readings; inputs = s .inputs; terms = s .terms; questions = x; claims = s .claims; formulas = s .formulas; choices = s .choices; invariant = s .invariant; bound = s .bound }
+
+abbrev withClaims : System → List Equation → System
+withClaims s x = record { bits = s .bits; symbols = s .symbols; readings = s .readings; inputs = s .inputs; terms = s .terms; questions = s .questions; claims = x; formulas = s .formulas; choices = s .choices; invariant = s .invariant; bound = s .bound }
+
+abbrev withFormulas : System → List Formula → System
+withFormulas s x = record { bits = s .bits; symbols = s .symbols; readings = s .readings; inputs = s .inputs; terms = s .terms; questions = s .questions; claims = s .claims; formulas = x; choices = s .choices; invariant = s .invariant; bound = s .bound }
+
+abbrev withChoices : System → List Choice → System
+withChoices s x = record { bits = s .bits; symbols = s .symbols; readings = s .readings; inputs = s .inputs; terms = s .terms; questions = s .questions; claims = s .claims; formulas = s .formulas; choices = x; invariant = s .invariant; bound = s .bound }
+
+abbrev withInvariant : System → Option ℕ → System
+withInvariant s x = record { bits = s .bits; symbols = s .symbols; readings = s .readings; inputs = s .inputs; terms = s .terms; questions = s .questions; claims = s .claims; formulas = s .formulas; choices = s .choices; invariant = x; bound = s .bound }
+
+abbrev withBound : System → Option ℕ → System
+withBound s x = record { bits = s .bits; symbols = s .symbols; readings = s .readings; inputs = s .inputs; terms = s .terms; questions = s .questions; claims = s .claims; formulas = s .formulas; choices = s .choices; invariant = s .invariant; bound = x }
+
+-- what a record adds to what earlier ones described: one more thing of its letter, or what is given once
 abbrev pub add : System → Record → System
-add s (Record.Bit b) = record { bits = s .bits ++ record { start = b; next = None } ∷ []; symbols = s .symbols; readings = s .readings; inputs = s .inputs; terms = s .terms; questions = s .questions; claims = s .claims; formulas = s .formulas; choices = s .choices; invariant = s .invariant; bound = s .bound }
-add s (Record.Symbol a) = record { bits = s .bits; symbols = s .symbols ++ a ∷ []; readings = s .readings; inputs = s .inputs; terms = s .terms; questions = s .questions; claims = s .claims; formulas = s .formulas; choices = s .choices; invariant = s .invariant; bound = s .bound }
-add s (Record.Reading w) = record { bits = s .bits; symbols = s .symbols; readings = s .readings ++ record { start = w; next = None } ∷ []; inputs = s .inputs; terms = s .terms; questions = s .questions; claims = s .claims; formulas = s .formulas; choices = s .choices; invariant = s .invariant; bound = s .bound }
-add s Record.Input = record { bits = s .bits; symbols = s .symbols; readings = s .readings; inputs = s .inputs + 1; terms = s .terms; questions = s .questions; claims = s .claims; formulas = s .formulas; choices = s .choices; invariant = s .invariant; bound = s .bound }
-add s (Record.Term t) = record { bits = s .bits; symbols = s .symbols; readings = s .readings; inputs = s .inputs; terms = s .terms ++ t ∷ []; questions = s .questions; claims = s .claims; formulas = s .formulas; choices = s .choices; invariant = s .invariant; bound = s .bound }
-add s (Record.Question e) = record { bits = s .bits; symbols = s .symbols; readings = s .readings; inputs = s .inputs; terms = s .terms; questions = s .questions ++ e ∷ []; claims = s .claims; formulas = s .formulas; choices = s .choices; invariant = s .invariant; bound = s .bound }
-add s (Record.Claim e) = record { bits = s .bits; symbols = s .symbols; readings = s .readings; inputs = s .inputs; terms = s .terms; questions = s .questions; claims = s .claims ++ e ∷ []; formulas = s .formulas; choices = s .choices; invariant = s .invariant; bound = s .bound }
-add s (Record.Formula f) = record { bits = s .bits; symbols = s .symbols; readings = s .readings; inputs = s .inputs; terms = s .terms; questions = s .questions; claims = s .claims; formulas = s .formulas ++ f ∷ []; choices = s .choices; invariant = s .invariant; bound = s .bound }
-add s (Record.Choice k) = record { bits = s .bits; symbols = s .symbols; readings = s .readings; inputs = s .inputs; terms = s .terms; questions = s .questions; claims = s .claims; formulas = s .formulas; choices = s .choices ++ k ∷ []; invariant = s .invariant; bound = s .bound }
-add s (Record.NextBit b f) = record { bits = bitTo b (s .bits) f; symbols = s .symbols; readings = s .readings; inputs = s .inputs; terms = s .terms; questions = s .questions; claims = s .claims; formulas = s .formulas; choices = s .choices; invariant = s .invariant; bound = s .bound }
-add s (Record.NextReading r k) = record { bits = s .bits; symbols = s .symbols; readings = readingTo r (s .readings) k; inputs = s .inputs; terms = s .terms; questions = s .questions; claims = s .claims; formulas = s .formulas; choices = s .choices; invariant = s .invariant; bound = s .bound }
-add s (Record.Invariant f) = record { bits = s .bits; symbols = s .symbols; readings = s .readings; inputs = s .inputs; terms = s .terms; questions = s .questions; claims = s .claims; formulas = s .formulas; choices = s .choices; invariant = Some f; bound = s .bound }
-add s (Record.Bound h) = record { bits = s .bits; symbols = s .symbols; readings = s .readings; inputs = s .inputs; terms = s .terms; questions = s .questions; claims = s .claims; formulas = s .formulas; choices = s .choices; invariant = s .invariant; bound = Some h }
+add s (Record.Bit b) = withBits s (s .bits ++ record { start = b; next = None } ∷ [])
+add s (Record.Symbol a) = withSymbols s (s .symbols ++ a ∷ [])
+add s (Record.Reading w) = withReadings s (s .readings ++ record { start = w; next = None } ∷ [])
+add s Record.Input = withInputs s (s .inputs + 1)
+add s (Record.Term t) = withTerms s (s .terms ++ t ∷ [])
+add s (Record.Question e) = withQuestions s (s .questions ++ e ∷ [])
+add s (Record.Claim e) = withClaims s (s .claims ++ e ∷ [])
+add s (Record.Formula f) = withFormulas s (s .formulas ++ f ∷ [])
+add s (Record.Choice k) = withChoices s (s .choices ++ k ∷ [])
+add s (Record.NextBit b f) = withBits s (bitTo b (s .bits) f)
+add s (Record.NextReading r k) = withReadings s (readingTo r (s .readings) k)
+add s (Record.Invariant f) = withInvariant s (Some f)
+add s (Record.Bound h) = withBound s (Some h)
 
 -- the system that records describe, over what earlier ones described
 abbrev pub gather : System → List Record → System
