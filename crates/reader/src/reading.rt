@@ -161,6 +161,12 @@ pub fn read_records(bytes: &[u8], heap: Global, records: &mut Vec<Record>) -> Re
     Ok(draft.into_sheet())
 }
 
+fn store(place: &mut Sheet, sheet: Sheet)
+    ensures { λ _. ⌜ now (place .exit) ≡ sheet ⌝ }
+{
+    *place = sheet;
+}
+
 /// Reads a sheet into the caller's place, which keeps its earlier sheet unless the bytes are a whole one.
 /// The first clause says which records were read and which fault was met first, and the second what that
 /// is for: a sheet is read exactly when the bytes describe it.
@@ -172,7 +178,7 @@ pub fn read(bytes: &[u8], heap: Global, place: &mut Sheet) -> Result<(), Failure
     let mut records = Vec::new(heap);
     match read_records(bytes, heap, &mut records) {
         Ok(sheet) => {
-            *place = sheet;
+            store(place, sheet);
             Ok(())
         }
         Err(failure) => Err(failure),
