@@ -1,0 +1,4 @@
+pub mod Congruence
+pub mod Labels
+pub mod Working
+pub mod Pending

@@ -1,0 +1,5 @@
+pub mod Standing
+pub mod Same
+pub mod Filing
+pub mod NameSets
+pub mod Changing
