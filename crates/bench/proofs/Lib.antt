@@ -1,0 +1,5 @@
+pub mod Agreeing
+pub mod Configuring
+pub mod Evaluating
+pub mod Filling
+pub mod Going

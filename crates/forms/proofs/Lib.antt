@@ -1,0 +1,11 @@
+pub mod Values
+pub mod Renaming
+pub mod Cutting
+pub mod Branches
+pub mod Naming
+pub mod Stepping
+pub mod Passing
+pub mod Deciding
+pub mod Shaping
+pub mod Shrinking
+pub mod Worked
