@@ -35,7 +35,7 @@ const SWAP: &[u8] =
 const ASKING: &[u8] =
     b"F\x00F\x01F\x01R\x01\x00IT\x00\x00\x00\x00\x00T\x01\x00\x00\x00\x00T\x02\x02\x01\x00\x00T\x02\x01\x00\x00\x00L\x00\x00\x00V\x00H\x00E";
 
-const STARTS: [u32; 8] = [5, 7, 0, 0, 0, 0, 0, 0];
+const STARTS: &[u32] = &[5, 7, 0, 0, 0, 0, 0, 0];
 
 // A place that no run leaves.
 const MARKED: Configuration = Configuration {
@@ -43,92 +43,173 @@ const MARKED: Configuration = Configuration {
     readings: [9; 6],
 };
 
+// A run on a listed model without entries: its answer, and what it leaves of the place: bits 0 and 15, and
+// readings 0, 1 and 5.
+struct Case {
+    name: &'static str,
+    sheet: &'static [u8],
+    default: u32,
+    starts: &'static [u32],
+    steps: u32,
+    inputs: &'static [u32],
+    answer: Result<Option<u32>, Fault>,
+    bits: (bool, bool),
+    readings: (u32, u32, u32),
+}
+
+static CASES: [Case; 11] = [
+    Case {
+        name: "the bit is raised, and the claim fails",
+        sheet: HOPPER,
+        default: 0,
+        starts: STARTS,
+        steps: 1,
+        inputs: &[0],
+        answer: Ok(Some(1)),
+        bits: (true, false),
+        readings: (5, 7, 0),
+    },
+    Case {
+        name: "the input is not the constant",
+        sheet: HOPPER,
+        default: 7,
+        starts: STARTS,
+        steps: 1,
+        inputs: &[0],
+        answer: Ok(None),
+        bits: (false, false),
+        readings: (5, 7, 0),
+    },
+    Case {
+        name: "the bit is raised, and the claim holds",
+        sheet: HOPPER,
+        default: 7,
+        starts: STARTS,
+        steps: 2,
+        inputs: &[7, 0],
+        answer: Ok(None),
+        bits: (true, false),
+        readings: (5, 7, 0),
+    },
+    Case {
+        name: "configuration 0 breaks without a step",
+        sheet: BROKEN,
+        default: 0,
+        starts: STARTS,
+        steps: 0,
+        inputs: &[],
+        answer: Ok(Some(0)),
+        bits: (true, false),
+        readings: (0, 0, 0),
+    },
+    Case {
+        name: "configuration 0 breaks before three steps",
+        sheet: BROKEN,
+        default: 0,
+        starts: STARTS,
+        steps: 3,
+        inputs: &[],
+        answer: Ok(Some(0)),
+        bits: (true, false),
+        readings: (0, 0, 0),
+    },
+    Case {
+        name: "readings change together",
+        sheet: SWAP,
+        default: 0,
+        starts: STARTS,
+        steps: 9_999,
+        inputs: &[],
+        answer: Ok(None),
+        bits: (false, false),
+        readings: (7, 5, 0),
+    },
+    Case {
+        name: "10,000 steps are the most",
+        sheet: SWAP,
+        default: 0,
+        starts: STARTS,
+        steps: 10_000,
+        inputs: &[],
+        answer: Ok(None),
+        bits: (false, false),
+        readings: (5, 7, 0),
+    },
+    Case {
+        name: "more steps are refused before all else",
+        sheet: HOPPER,
+        default: 0,
+        starts: &[],
+        steps: 10_001,
+        inputs: &[],
+        answer: Err(Fault::Bench(BenchFault::TooManySteps)),
+        bits: (true, true),
+        readings: (9, 9, 9),
+    },
+    Case {
+        name: "too few inputs are refused before the start values",
+        sheet: HOPPER,
+        default: 0,
+        starts: &[],
+        steps: 2,
+        inputs: &[1],
+        answer: Err(Fault::Bench(BenchFault::InputsLength)),
+        bits: (true, true),
+        readings: (9, 9, 9),
+    },
+    Case {
+        name: "too many inputs are refused",
+        sheet: HOPPER,
+        default: 0,
+        starts: STARTS,
+        steps: 1,
+        inputs: &[1, 2],
+        answer: Err(Fault::Bench(BenchFault::InputsLength)),
+        bits: (true, true),
+        readings: (9, 9, 9),
+    },
+    Case {
+        name: "seven start values are refused",
+        sheet: HOPPER,
+        default: 0,
+        starts: &[1, 2, 3, 4, 5, 6, 7],
+        steps: 1,
+        inputs: &[1],
+        answer: Err(Fault::Bench(BenchFault::StartsLength)),
+        bits: (true, true),
+        readings: (9, 9, 9),
+    },
+];
+
 fn sheet_of(heap: Global, bytes: &[u8]) -> Result<Sheet, Fail> {
     let mut sheet = smallest(heap)?;
     read(bytes, heap, &mut sheet)?;
     Ok(sheet)
 }
 
-fn is_marked(place: &Configuration) -> Result<(), Fail> {
-    check(place.bits[0] && place.bits[15])?;
-    check_eq(place.readings[0], 9)?;
-    check_eq(place.readings[5], 9)
+fn comes_out(heap: Global, case: &Case) -> Result<bool, Fail> {
+    let sheet = sheet_of(heap, case.sheet)?;
+    let mut model = Listed::new(case.default, &[]);
+    let mut place = MARKED;
+    let answer = run_to(
+        &sheet,
+        &mut model,
+        case.starts,
+        case.steps,
+        case.inputs,
+        &mut place,
+    );
+    let bits = (place.bits[0], place.bits[15]);
+    let readings = (place.readings[0], place.readings[1], place.readings[5]);
+    Ok(answer == case.answer && bits == case.bits && readings == case.readings)
 }
 
 #[test]
-fn a_raised_bit_breaks_the_invariant(rt: LibcRuntime) -> Result<(), Fail> {
-    let sheet = sheet_of(rt.alloc(), HOPPER)?;
-    let mut model = Listed::new(0, &[]);
-    let mut place = MARKED;
-    check_eq(
-        run_to(&sheet, &mut model, &STARTS, 1, &[0], &mut place)?,
-        Some(1),
-    )?;
-    check(place.bits[0] && !place.bits[1] && !place.bits[15])?;
-    check_eq(place.readings[0], 5)?;
-    check_eq(place.readings[1], 7)?;
-    check_eq(place.readings[2], 0)
-}
-
-#[test]
-fn an_input_that_is_not_the_constant_raises_nothing(rt: LibcRuntime) -> Result<(), Fail> {
-    let sheet = sheet_of(rt.alloc(), HOPPER)?;
-    let mut model = Listed::new(7, &[]);
-    let mut place = MARKED;
-    check_eq(
-        run_to(&sheet, &mut model, &STARTS, 1, &[0], &mut place)?,
-        None,
-    )?;
-    check(!place.bits[0] && !place.bits[15])?;
-    check_eq(place.readings[0], 5)?;
-    check_eq(place.readings[1], 7)
-}
-
-#[test]
-fn a_raised_bit_is_no_break_where_the_claim_holds(rt: LibcRuntime) -> Result<(), Fail> {
-    let sheet = sheet_of(rt.alloc(), HOPPER)?;
-    let mut model = Listed::new(7, &[]);
-    let mut place = MARKED;
-    check_eq(
-        run_to(&sheet, &mut model, &STARTS, 2, &[7, 0], &mut place)?,
-        None,
-    )?;
-    check(place.bits[0])
-}
-
-#[test]
-fn configuration_0_can_break(rt: LibcRuntime) -> Result<(), Fail> {
-    let sheet = sheet_of(rt.alloc(), BROKEN)?;
-    let mut model = Listed::new(0, &[]);
-    let mut place = MARKED;
-    check_eq(
-        run_to(&sheet, &mut model, &STARTS, 0, &[], &mut place)?,
-        Some(0),
-    )?;
-    check_eq(
-        run_to(&sheet, &mut model, &STARTS, 3, &[], &mut place)?,
-        Some(0),
-    )?;
-    check(place.bits[0] && !place.bits[1])?;
-    check_eq(place.readings[0], 0)
-}
-
-#[test]
-fn readings_change_together(rt: LibcRuntime) -> Result<(), Fail> {
-    let sheet = sheet_of(rt.alloc(), SWAP)?;
-    let mut model = Listed::new(0, &[]);
-    let mut place = MARKED;
-    check_eq(
-        run_to(&sheet, &mut model, &STARTS, 1, &[], &mut place)?,
-        None,
-    )?;
-    check_eq(place.readings[0], 7)?;
-    check_eq(place.readings[1], 5)?;
-    check_eq(
-        run_to(&sheet, &mut model, &STARTS, 10_000, &[], &mut place)?,
-        None,
-    )?;
-    check_eq(place.readings[0], 5)
+fn every_case_comes_out(rt: LibcRuntime) -> Result<(), Fail> {
+    for case in &CASES {
+        check(comes_out(rt.alloc(), case)?).note(case.name)?;
+    }
+    Ok(())
 }
 
 #[test]
@@ -142,55 +223,9 @@ fn the_affine_model_runs_too(rt: LibcRuntime) -> Result<(), Fail> {
         s: 2,
     }];
     let mut model = Affine::new(100, &curves)?;
-    check_eq(run(&sheet, &mut model, &STARTS, 1, &[0])?, None)?;
+    check_eq(run(&sheet, &mut model, STARTS, 1, &[0])?, None)?;
     let mut other = Affine::new(6, &curves)?;
-    check_eq(run(&sheet, &mut other, &STARTS, 1, &[0])?, Some(1))
-}
-
-#[test]
-fn more_than_10_000_steps_are_refused_first(rt: LibcRuntime) -> Result<(), Fail> {
-    let sheet = sheet_of(rt.alloc(), HOPPER)?;
-    let mut model = Listed::new(0, &[]);
-    let mut place = MARKED;
-    let fault = Err(Fault::Bench(BenchFault::TooManySteps));
-    check(run_to(&sheet, &mut model, &[], 10_001, &[], &mut place) == fault)?;
-    is_marked(&place)
-}
-
-#[test]
-fn inputs_of_another_length_are_refused_next(rt: LibcRuntime) -> Result<(), Fail> {
-    let sheet = sheet_of(rt.alloc(), HOPPER)?;
-    let mut model = Listed::new(0, &[]);
-    let mut place = MARKED;
-    let fault = Err(Fault::Bench(BenchFault::InputsLength));
-    check(run_to(&sheet, &mut model, &[], 2, &[1], &mut place) == fault)?;
-    check(run_to(&sheet, &mut model, &[], 2, &[1, 2, 3], &mut place) == fault)?;
-    is_marked(&place)
-}
-
-#[test]
-fn other_than_8_start_values_are_refused_last(rt: LibcRuntime) -> Result<(), Fail> {
-    let sheet = sheet_of(rt.alloc(), ASKING)?;
-    let mut model = Recorder {
-        value: 3,
-        symbols: [99; 8],
-        asked: 0,
-    };
-    let mut place = MARKED;
-    let fault = Err(Fault::Bench(BenchFault::StartsLength));
-    check(
-        run_to(
-            &sheet,
-            &mut model,
-            &[1, 2, 3, 4, 5, 6, 7],
-            1,
-            &[1],
-            &mut place,
-        )
-            == fault,
-    )?;
-    is_marked(&place)?;
-    check_eq(model.asked, 0)
+    check_eq(run(&sheet, &mut other, STARTS, 1, &[0])?, Some(1))
 }
 
 #[test]
@@ -201,10 +236,10 @@ fn questions_come_in_their_order(rt: LibcRuntime) -> Result<(), Fail> {
         symbols: [99; 8],
         asked: 0,
     };
-    check_eq(run(&sheet, &mut model, &STARTS, 1, &[1])?, None)?;
-    check_eq(model.asked, 4)?;
-    check_eq(model.symbols[0], 0)?;
-    check_eq(model.symbols[1], 1)?;
-    check_eq(model.symbols[2], 2)?;
-    check_eq(model.symbols[3], 1)
+    let refused = run(&sheet, &mut model, &[], 1, &[1]);
+    check(refused == Err(Fault::Bench(BenchFault::StartsLength)) && model.asked == 0)?;
+    check_eq(run(&sheet, &mut model, STARTS, 1, &[1])?, None)?;
+    check(model.asked == 4)?;
+    check(model.symbols[0] == 0 && model.symbols[1] == 1)?;
+    check(model.symbols[2] == 2 && model.symbols[3] == 1)
 }
