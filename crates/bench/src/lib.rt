@@ -1,5 +1,7 @@
 //! Runs of a sheet on one plant model. `running` has the calls and the order of the questions that are put
 //! to the model; the modules below it work out values, judge a configuration and take a step.
+#![tactic(auto)]
+
 mod bits;
 pub mod configuration;
 mod equations;

@@ -1,4 +1,6 @@
 //! Runs the sheet in one file as another file says, and prints what comes of it.
+#![tactic(auto)]
+
 use anyhow::anyhow;
 use bench_text::bench_report;
 use std::{env, fs};

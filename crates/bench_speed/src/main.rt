@@ -1,5 +1,7 @@
 //! Runs the sheet on standard input for 10,000 steps on an affine model, and prints the answer. With a number
 //! as its argument it repeats the run so many times, and prints the steps per second instead.
+#![tactic(auto)]
+
 use anyhow::anyhow;
 use bench::run;
 use plant::affine::{Affine, Curve};

@@ -1,4 +1,6 @@
 //! What is printed of a run: the run file's own words, the answer and the last configuration.
+#![tactic(auto)]
+
 ghost use Rattle.std.specs.Prelude.{◌≡◌, ℕ, ◌≤◌, List, ◌++◌, map, length, take, IfOk, Ok, string_bytes, codes, OnOk};
 ghost use Rattle.bench.specs.Outcome.{last_of};
 ghost use Rattle.bench_text.specs.Lines.{spaced, bit_number, plant_line, head_of, answer_line, last_line};

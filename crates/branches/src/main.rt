@@ -15,6 +15,8 @@
 //!
 //! A list without an element is `none`. Where a call refuses, `fault N` stands in place of its answer, and lines that
 //! need the answer are left out. Terms and conditions are written as in the crate `notation`.
+#![tactic(auto)]
+
 mod writing;
 
 use anyhow::anyhow;

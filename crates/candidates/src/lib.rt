@@ -1,6 +1,7 @@
 //! Row 0, the conditions of a branch, the candidate of a row on a branch, and safety of a form, over lent memory.
 //! `specs/Outcome.antt` and `specs/Judged.antt` say what the calls answer, `specs/Working.antt` and `specs/Cases.antt`
 //! have the words of the inner functions.
+#![tactic(auto)]
 
 mod answers;
 mod asking;

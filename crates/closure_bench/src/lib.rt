@@ -1,4 +1,6 @@
 //! The entry that the benchmark calls: terms and conditions as plain numbers, decided many times over.
+#![tactic(auto)]
+
 use closure::decide;
 use fault::TableFault;
 use terms::{Condition, Count, Node, Sign, TermRecord, intern};

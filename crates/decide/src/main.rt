@@ -1,4 +1,6 @@
 //! Reads conditions from standard input, one to a line, and prints whether some interpretation meets them.
+#![tactic(auto)]
+
 use notation::decide_text;
 use std::io::Read;
 

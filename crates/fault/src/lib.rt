@@ -1,5 +1,7 @@
 //! The faults of every layer. A fault has a number and a layer, and a sheet fault also a place.
 //! `specs/Values.antt` gives every case its values in one definition.
+#![tactic(auto)]
+
 ghost use Rattle.std.specs.Prelude.{◌≡◌, Some};
 ghost use Rattle.fault.specs.Values.{values_of, text_of};
 ghost use Rattle.fault.specs.declared.Failure.TheVariants.{Fault as isFault, Memory};

@@ -1,4 +1,5 @@
 //! Forms and matching: high terms cut, conditions dropped, and older rows that take a form.
+#![tactic(auto)]
 
 mod change;
 mod cutting;

@@ -1,6 +1,7 @@
 //! Rows, candidates, forms and matching: the symbolic states of the checker.
 //! `specs/Rows.antt`, `specs/Candidate.antt`, `specs/Form.antt` and `specs/Matching.antt` say what they are, and
 //! `specs/Laws.antt` what they are for.
+#![tactic(auto)]
 
 mod laws;
 

@@ -1,6 +1,8 @@
 //! Makes the form of a large row at height 2, and prints how many terms the bank has before and after, and how many
 //! conditions the form has. With a number as its argument it repeats that so many times, and prints the time of one
 //! form, that of one test whether the memory is a bank, and their ratio.
+#![tactic(auto)]
+
 mod large;
 
 use anyhow::anyhow;

@@ -1,4 +1,5 @@
 //! Tests of rows, candidates, forms, matching and safety: tables of cases with their exact answers.
+#![tactic(auto)]
 
 #[cfg(test)]
 mod forming;

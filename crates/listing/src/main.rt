@@ -1,4 +1,6 @@
 //! Reads a sheet from standard input and lists it.
+#![tactic(auto)]
+
 use sheet_text::listing;
 use std::io::Read;
 

@@ -1,5 +1,6 @@
 //! Conditions in their written form, one to a line, read into a bank of terms.
 //! `specs/Written.antt` has the form.
+#![tactic(auto)]
 
 mod document;
 mod reading;

@@ -1,5 +1,7 @@
 //! Plant models: what the symbols of a sheet mean on one concrete plant.
 //! The interface is the trait `Model`; `listed` and `affine` have the two models that are built in.
+#![tactic(auto)]
+
 ghost use Rattle.std.specs.Prelude.{◌≡◌, ℕ, List};
 
 pub mod affine;

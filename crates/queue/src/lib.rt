@@ -1,5 +1,7 @@
 //! A first-in-first-out queue of fixed room over a slice that the caller lends, for entries of any one type.
 //! `specs/Entries.antt` says which list of entries a queue stands for; the calls are proved by that list.
+#![tactic(auto)]
+
 ghost use Rattle.std.specs.Prelude.{◌-◌, ◌≤◌, length};
 
 mod calls;

@@ -1,4 +1,6 @@
 //! The reader of sheets: from bytes to a sheet, or to the first fault.
+#![tactic(auto)]
+
 mod adding;
 mod contents;
 mod decode;

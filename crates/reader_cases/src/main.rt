@@ -1,5 +1,7 @@
 //! Reads many sheets, one to a line in hexadecimal, and prints what each comes to. Its `stdout` was written by
 //! a second reader, `tools/sheet_cases.py`.
+#![tactic(auto)]
+
 ghost use Rattle.std.specs.Prelude.{◌<◌};
 
 use fault::Failure;

@@ -1,4 +1,5 @@
 //! Tests of what the reader leaves in the caller's place, and of formulas with shared operands.
+#![tactic(auto)]
 
 #[cfg(test)]
 mod tests {

@@ -1,5 +1,6 @@
 //! Rows in lent memory: their records, the names that stand in them, and whether memory holds a row.
 //! `specs/Records.antt` says which row a record stands for, and `specs/Names.antt` which names a set has.
+#![tactic(auto)]
 
 mod name_sets;
 pub mod row;

@@ -1,4 +1,6 @@
 //! The run file: which plant, start values, steps and inputs a run on the bench has.
+#![tactic(auto)]
+
 ghost use Rattle.std.specs.Prelude.{◌≡◌};
 ghost use Rattle.run_file.specs.declared.Halt.TheVariants.{Problem as isProblem, Memory};
 

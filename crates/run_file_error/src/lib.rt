@@ -1,4 +1,6 @@
 //! Why a run file is not read: the problem, its line, and what is printed of them.
+#![tactic(auto)]
+
 ghost use Rattle.std.specs.Prelude.{◌≡◌, Some};
 ghost use Rattle.run_file_error.specs.Texts.{problem_text, line_text, failure_text};
 

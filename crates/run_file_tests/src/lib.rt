@@ -1,3 +1,5 @@
 //! Run files that are read, and one for each problem.
+#![tactic(auto)]
+
 #[cfg(test)]
 mod tests;

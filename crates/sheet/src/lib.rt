@@ -1,5 +1,7 @@
 //! Sequence sheets: the types of a sheet, what its letters fix, and the truth of its formulas.
 //! The rules for a sheet and its meaning are in `specs/`.
+#![tactic(auto)]
+
 pub mod kind;
 mod letters;
 pub mod parts;

@@ -1,4 +1,6 @@
 //! The text that lists a sheet: a line for each record that was read, and a line for the outcome.
+#![tactic(auto)]
+
 ghost use Rattle.std.specs.Prelude.{◌≡◌, ◌+◌, ◌≤◌, List, ◌++◌, length, take, drop, IfOk, string_bytes, codes, OnOk, slice_index};
 ghost use Rattle.fault.specs.Values.{text_of};
 ghost use Rattle.sheet.specs.Format.{body_length, written_all};

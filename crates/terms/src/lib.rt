@@ -1,6 +1,7 @@
 //! Terms of uninterpreted symbols in a lent bank of records: each term once, subterms first.
 //! `specs/Terms.antt` says what a term, a condition and an interpretation are, and `specs/Bank.antt` which terms the
 //! records stand for.
+#![tactic(auto)]
 
 mod bank;
 
