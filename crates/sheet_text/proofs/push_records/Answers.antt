@@ -1,4 +1,4 @@
-use Rattle.std.proofs.Common.{◌≡◌, ◌<◌, ◌≤◌, false, length, get_or, vec_items, string_bytes, ap, ◌∙◌, arith}
+use Rattle.std.proofs.Common.{◌<◌, ◌≤◌, false, length, get_or, vec_items, string_bytes, ap, ◌∙◌, arith}
 use Rattle.sheet.specs.Format.{kind_of}
 use Rattle.sheet.specs.declared.syntax.Record.{Record}
 use Rattle.sheet_text.proofs.Places.{next_whole, listing_more, listing_all}
