@@ -11,7 +11,7 @@ pub struct Recorder {
     pub asked: usize,
 }
 
-pub impl Model for Recorder as RecorderModel {
+impl Model for Recorder {
     ghost meaning = { λ r _ _. r.value };
 
     ghost lenders = { λ _. [] };

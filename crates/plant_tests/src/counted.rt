@@ -17,7 +17,7 @@ pub struct Counted<M> {
     pub asked: u64,
 }
 
-pub impl<M: Model> Model for Counted<M> as CountedModel {
+impl<M: Model> Model for Counted<M> {
     ghost meaning = { λ layer. M.Model.meaning layer.below };
 
     ghost lenders = { λ layer. M.Model.lenders layer.below };
@@ -40,7 +40,7 @@ pub struct CountedOver<'a, M> {
     pub asked: u64,
 }
 
-pub impl<'a, M: Model> Model for CountedOver<'a, M> as CountedOverModel {
+impl<'a, M: Model> Model for CountedOver<'a, M> {
     ghost meaning = { λ layer. M.Model.meaning layer.below.now };
 
     ghost lenders = { λ layer. layer.below.ghost_name ∷ M.Model.lenders layer.below.now };

@@ -7,10 +7,10 @@ use Rattle.run_file.proofs.draft.numbers.Goals as goal
 
 pub loop-word-preserved : goal.loop-word-preserved
 loop-word-preserved c =
-    let pushed = chosen _ _ _ _ c.push.ensures.items (ap is_ok c.in-ok-push.was) in
+    let pushed = chosen _ _ _ _ c.push.ensures.items (ap is_ok c.in_ok-push.was) in
     c.loop-word.invariant
-    ∙ numbers_more _ _ _ _ c.next-word.ensures.words (false-eqb _ 0 c.if-is-empty.ensures) c.in-ok-number.field-0 (sym c.in-ok-number.ensures)
-    ∙ sym (ap (λ l. after l (numbers_of (words_in c.next-word.result.1.now))) pushed)
+    ∙ numbers_more _ _ _ _ c.next_word.ensures.words (false-eqb _ 0 c.if-is_empty.ensures) c.in_ok-number.field-0 (sym c.in_ok-number.ensures)
+    ∙ sym (ap (λ l. after l (numbers_of (words_in c.next_word.result.1.now))) pushed)
 
-pub returns-then-is-empty : goal.returns-then-is-empty
-returns-then-is-empty c = c.loop-word.invariant ∙ numbers_end _ _ _ _ c.next-word.ensures.words (true-eqb _ 0 c.if-is-empty.ensures)
+pub returns-then-is_empty : goal.returns-then-is_empty
+returns-then-is_empty c = c.loop-word.invariant ∙ numbers_end _ _ _ _ c.next_word.ensures.words (true-eqb _ 0 c.if-is_empty.ensures)
