@@ -1,8 +1,8 @@
-use Rattle.std.proofs.Common.{is_ok, sym, ap, ◌∙◌, arith, true-eqb, false-eqb}
+use Rattle.std.proofs.Common.{is_ok, sym, ap, ◌∙◌, true-eqb, false-eqb}
 use Rattle.std.proofs.ResultArms.{chosen}
 use Rattle.run_file.specs.Reading.{numbers_of}
 use Rattle.run_file.specs.Text.{words_in}
-use Rattle.run_file.proofs.Sequences.{after, after_none, numbers_end, numbers_more, numbers_bad}
+use Rattle.run_file.proofs.Sequences.{after, numbers_end, numbers_more}
 use Rattle.run_file.proofs.draft.numbers.Goals as goal
 
 pub loop-word-preserved : goal.loop-word-preserved

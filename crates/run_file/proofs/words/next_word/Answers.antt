@@ -1,4 +1,4 @@
-use Rattle.std.proofs.Common.{length, sym, ap, ◌∙◌, arith}
+use Rattle.std.proofs.Common.{sym, ap, ◌∙◌, arith}
 use Rattle.run_file.specs.Text.{blank, until, from, words_in, onto}
 use Rattle.run_file.proofs.Fronts.{words_next}
 use Rattle.run_file.proofs.words.next_word.Goals as goal
