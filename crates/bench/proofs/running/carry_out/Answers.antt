@@ -1,4 +1,4 @@
-use Rattle.std.proofs.Common.{◌≡◌, ℕ, List, sym, refl, ap, ◌∙◌, subst, arith}
+use Rattle.std.proofs.Common.{◌≡◌, ℕ, List, sym, refl, ◌∙◌, subst, arith}
 use Rattle.sheet.specs.Runs.{Configuration, step, start, inputs_of, invariant_holds}
 use Rattle.sheet.specs.Truth.{Meaning}
 use Rattle.sheet.specs.View.{sheet_of}

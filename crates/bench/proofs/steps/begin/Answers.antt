@@ -1,4 +1,4 @@
-use Rattle.std.proofs.Common.{◌≡◌, false, List, map, subst, arith}
+use Rattle.std.proofs.Common.{false, List, map, subst, arith}
 use Rattle.sheet.specs.declared.syntax.Bit.{Bit}
 use Rattle.sheet.specs.declared.syntax.Reading.{Reading}
 use Rattle.sheet.specs.Runs.{start_bit, start_reading}

@@ -1,4 +1,4 @@
-use Rattle.std.proofs.Common.{◌≡◌, false, List, [], map, ◌∙◌, subst, arith}
+use Rattle.std.proofs.Common.{false, List, [], map, subst, arith}
 use Rattle.sheet.specs.declared.syntax.Equation.{Equation}
 use Rattle.sheet.specs.declared.syntax.TermEntry.{TermEntry}
 use Rattle.sheet.specs.Stored.{term_in}

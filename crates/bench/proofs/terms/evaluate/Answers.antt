@@ -1,4 +1,4 @@
-use Rattle.std.proofs.Common.{◌≡◌, ℕ, ◌-◌, ◌<◌, true, false, List, map, length, get_or, take, refl, ap, ◌∙◌, arith}
+use Rattle.std.proofs.Common.{◌≡◌, ◌-◌, ◌<◌, false, map, length, get_or, take, refl, ap, ◌∙◌, arith}
 use Rattle.sheet.specs.Stored.{term_in}
 use Rattle.sheet.specs.Truth.{Meaning, term_value, term_values}
 use Rattle.bench.proofs.Evaluating.{no_term, value_at, value_past, pass_new, pass_over, beq_due, beq_other}

@@ -1,4 +1,4 @@
-use Rattle.std.proofs.Common.{◌≡◌, ℕ, Bool, false, map, sym, ◌∙◌, arith}
+use Rattle.std.proofs.Common.{◌≡◌, ℕ, Bool, false, map, ◌∙◌, arith}
 use Rattle.sheet.specs.Stored.{term_in}
 use Rattle.sheet.specs.Rules.{term_infos, input_at}
 use Rattle.bench.proofs.Evaluating.{set_more, flag_at, flag_past}
