@@ -1,5 +1,5 @@
 -- What is worked out from lists by number is the same for lists that are the same by number.
-use Rattle.std.proofs.Common.{◌≡◌, ℕ, zero, suc, ◌+◌, ◌<◌, ◌≤◌, Bool, true, false, not, ◌&&◌, ◌||◌, eqb, ltb, List, [], ◌∷◌, ◌++◌, map, length, get_or, take, Some, None, Option, sym, refl, ap, ◌∙◌, ap₂, ⊎_elim, arith, length-take}
+use Rattle.std.proofs.Common.{◌≡◌, ℕ, zero, suc, ◌<◌, ◌≤◌, Bool, true, false, eqb, ltb, List, [], ◌∷◌, ◌++◌, map, length, get_or, take, Some, None, Option, sym, refl, ap, ◌∙◌, ap₂, ⊎_elim, arith}
 use Rattle.std.proofs.lemmas.List.{get_or_past}
 use Rattle.std.proofs.lemmas.Bool.Decides.{leb_tells}
 use Rattle.sheet.specs.declared.syntax.Choice.{Choice}
@@ -11,7 +11,7 @@ use Rattle.sheet.specs.Grow.{grow}
 use Rattle.sheet.specs.Lawful.{each_at}
 use Rattle.sheet.specs.Rules.{no_info, input_at, term_info, term_infos}
 use Rattle.sheet.specs.Runs.{or_kept, numbered}
-use Rattle.sheet.specs.Truth.{Meaning, arg_values, term_value, term_values, equal, answers, truth_of, truths, term_of_choice, chosen}
+use Rattle.sheet.specs.Truth.{Meaning, term_value, term_values, equal, answers, truth_of, truths, term_of_choice, chosen}
 use Rattle.sheet.proofs.Eaches.{left_true, right_true}
 use Rattle.sheet.proofs.Growing.{grow_at, grow-length}
 use Rattle.bench.specs.Outcome.{Same}

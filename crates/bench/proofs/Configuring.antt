@@ -1,20 +1,20 @@
 -- One configuration: its start, its judgement and the step from it.
-use Rattle.std.proofs.Common.{◌≡◌, ℕ, ◌<◌, ◌≤◌, Bool, true, false, not, ◌&&◌, eqb, ltb, leb, List, [], ◌∷◌, map, length, get_or, Some, None, Option, sym, refl, ap, ◌∙◌, ap₂, arith, ltb-true, leb-true}
+use Rattle.std.proofs.Common.{◌≡◌, ℕ, ◌<◌, ◌≤◌, Bool, true, false, not, ◌&&◌, eqb, ltb, leb, List, [], map, length, get_or, sym, refl, ap, ◌∙◌, ap₂, arith, ltb-true, leb-true}
 use lib.ListN.{length-map}
 use Rattle.sheet.specs.declared.syntax.Bit.{Bit}
 use Rattle.sheet.specs.declared.syntax.Equation.{Equation}
 use Rattle.sheet.specs.declared.syntax.Reading.{Reading}
 use Rattle.sheet.specs.declared.syntax.Record.{Record}
 use Rattle.sheet.specs.Lawful.{Few}
-use Rattle.sheet.specs.Rules.{names, keeps, obeys_at, contains_input, input_at, term_infos}
-use Rattle.sheet.specs.Runs.{Configuration, start, start_bit, start_reading, or_kept, numbered, step, step_values, step_truths, step_chosen, next_bit, next_reading, invariant_holds}
+use Rattle.sheet.specs.Rules.{obeys_at, contains_input}
+use Rattle.sheet.specs.Runs.{Configuration, start, start_bit, start_reading, or_kept, numbered, step, step_values, step_truths, step_chosen, next_bit, next_reading}
 use Rattle.sheet.specs.System.{System}
 use Rattle.sheet.specs.Truth.{Meaning, term_value, term_values, equal, answers, truth_of, truths, term_of_choice, chosen}
 use Rattle.sheet.proofs.Eaches.{left_true, right_true}
 use Rattle.sheet.proofs.Growing.{grow-length}
 use Rattle.bench.specs.declared.configuration.Configuration.{Configuration as Place}
 use Rattle.bench.specs.Outcome.{Same, Holds, Runnable}
-use Rattle.bench.specs.Values.{Filled, Flags, Due, Known}
+use Rattle.bench.specs.Values.{Filled, Flags, Known}
 use Rattle.bench.proofs.Evaluating.{unlike}
 use Rattle.bench.proofs.Filling.{numbered-length}
 use Rattle.bench.proofs.Agreeing.{filled-same, numbered-same, or_kept_same, values_same, answers-same, truths-same, chosen-same, not_due, plain-same, map_each}

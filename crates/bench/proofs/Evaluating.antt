@@ -1,5 +1,5 @@
 -- The flags of terms, and their values pass by pass.
-use Rattle.std.proofs.Common.{◌≡◌, ℕ, zero, suc, ◌+◌, ◌-◌, ◌<◌, ◌≤◌, Bool, true, false, ◌||◌, eqb, ltb, ◌⊎◌, List, [], ◌∷◌, map, length, get_or, take, set, sym, refl, ap, ◌∙◌, ap₂, inl, inr, ⊎_elim, arith, length-set, length-take, below_more}
+use Rattle.std.proofs.Common.{◌≡◌, ℕ, suc, ◌+◌, ◌-◌, ◌<◌, ◌≤◌, Bool, true, false, ◌||◌, eqb, ltb, List, [], ◌∷◌, map, length, get_or, take, set, sym, refl, ap, ◌∙◌, ap₂, ⊎_elim, arith, length-set, length-take}
 use mathlib.Core.Bool.{beq}
 use lib.ListN.{length-map}
 use Rattle.std.proofs.lemmas.List.{get_or-set_same, get_or-set_other, get_or_past, get_or-take, get_or-map}
@@ -10,11 +10,10 @@ use Rattle.sheet.specs.declared.syntax.Term.{Term}
 use Rattle.sheet.specs.declared.syntax.TermEntry.{TermEntry}
 use Rattle.sheet.specs.declared.syntax.TermInfo.{TermInfo}
 use Rattle.sheet.specs.Stored.{term_in}
-use Rattle.sheet.specs.Grow.{grow}
 use Rattle.sheet.specs.Rules.{no_info, input_at, args_info, term_info, term_infos}
 use Rattle.sheet.specs.Truth.{Meaning, arg_values, term_value, term_values}
 use Rattle.sheet.proofs.Growing.{grow_at, grow-length}
-use Rattle.bench.specs.Values.{args_input, term_input, Flags, Due, Known}
+use Rattle.bench.specs.Values.{args_input, term_input, Due, Known}
 
 -- two lists that agree below k agree everywhere once they are cut off there
 pub cut_agree : {X Y V : Type 0} (f : X → V) (g : Y → V) (xs : List X) (ys : List Y) (d : X) (e : Y) (k : ℕ) → f d ≡ g e → ((a : ℕ) → a < k → f (get_or xs a d) ≡ g (get_or ys a e)) → (a : ℕ) → f (get_or (take k xs) a d) ≡ g (get_or (take k ys) a e)

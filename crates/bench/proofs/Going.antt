@@ -1,10 +1,10 @@
 -- A run, configuration by configuration.
-use Rattle.std.proofs.Common.{◌≡◌, ℕ, suc, ◌+◌, ◌*◌, ◌<◌, ◌≤◌, Bool, true, false, eqb, List, length, Some, None, Option, sym, refl, ap, ◌∙◌, subst, ⊎_elim, mul-le-mul_right, add-mul, one-mul, add-one, arith, below_more}
+use Rattle.std.proofs.Common.{◌≡◌, ℕ, suc, ◌+◌, ◌*◌, ◌<◌, ◌≤◌, Bool, true, false, eqb, List, Some, None, sym, ap, ◌∙◌, ⊎_elim, mul-le-mul_right, add-mul, one-mul, add-one, arith, below_more}
 use mathlib.Core.Bool.{Bool-set}
 use mathlib.Core.Logic.{∥∥₁_elim}
 use Rattle.std.proofs.lemmas.Bool.Decides.{eqb_tells}
-use Rattle.sheet.specs.Runs.{Configuration, start, step, inputs_of, after, invariant_holds, BreaksFirstAt, FirstBreak}
-use Rattle.sheet.specs.Lawful.{Lawful, Few}
+use Rattle.sheet.specs.Runs.{Configuration, start, step, inputs_of, after, invariant_holds}
+use Rattle.sheet.specs.Lawful.{Lawful}
 use Rattle.sheet.specs.System.{System}
 use Rattle.sheet.specs.Truth.{Meaning}
 use Rattle.bench.specs.declared.configuration.Configuration.{Configuration as Place}

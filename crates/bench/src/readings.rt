@@ -8,9 +8,9 @@ use plant::Model;
 use sheet::{Reading, Start};
 
 fn start_value<M: Model>(model: &mut M, start: Start, starts: &[u32]) -> u32
-    ensures answer { result ≡ start_value (meaning model.old) starts.now start }
-    ensures kept { meaning model.new ≡ meaning model.old }
-    ensures lent { lenders model.new ≡ lenders model.old }
+    ensures answer { result ≡ start_value (M.meaning model.old) starts.now start }
+    ensures kept { M.meaning model.new ≡ M.meaning model.old }
+    ensures lent { M.lenders model.new ≡ M.lenders model.old }
 {
     match start {
         Start::Name(name) => at_or(starts, name, 0),
@@ -25,9 +25,9 @@ pub(crate) fn start_readings<M: Model>(
     starts: &[u32],
     out: &mut [u32],
 )
-    ensures values { Filled 0 out.new (map (start_reading (meaning model.old) starts.now) readings.now) }
-    ensures kept { meaning model.new ≡ meaning model.old }
-    ensures lent { lenders model.new ≡ lenders model.old }
+    ensures values { Filled 0 out.new (map (start_reading (M.meaning model.old) starts.now) readings.now) }
+    ensures kept { M.meaning model.new ≡ M.meaning model.old }
+    ensures lent { M.lenders model.new ≡ M.lenders model.old }
 {
     for k in 0..out.len() {
         out[k] = if k < readings.len() {

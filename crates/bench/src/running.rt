@@ -51,9 +51,9 @@ fn carry_out<M: Model>(
     place: &mut Configuration,
 ) -> Option<u32>
     requires { length inputs.now ≡ n * (sheet_of sheet.now).inputs }
-    ensures ran { Runnable (sheet_of sheet.now) → Ran (meaning model.old) (sheet_of sheet.now) starts.now inputs.now n result place.new }
-    ensures kept { meaning model.new ≡ meaning model.old }
-    ensures lent { lenders model.new ≡ lenders model.old }
+    ensures ran { Runnable (sheet_of sheet.now) → Ran (M.meaning model.old) (sheet_of sheet.now) starts.now inputs.now n result place.new }
+    ensures kept { M.meaning model.new ≡ M.meaning model.old }
+    ensures lent { M.lenders model.new ≡ M.lenders model.old }
 {
     let mut flags = [false; 64];
     flag_inputs(sheet.parts.terms.as_slice(), &mut flags);
@@ -84,9 +84,9 @@ pub fn run_to<M: Model>(
     inputs: &[u32],
     place: &mut Configuration,
 ) -> Result<Option<u32>, Fault>
-    ensures answer { MatchResult result (λ a. Accepted (sheet_of sheet.now) starts.now inputs.now n × Ran (meaning model.old) (sheet_of sheet.now) starts.now inputs.now n a place.new) (λ f. Refused (sheet_of sheet.now) starts.now inputs.now n f × (place.new ≡ place.old) × (model.new ≡ model.old)) }
-    ensures kept { meaning model.new ≡ meaning model.old }
-    ensures lent { lenders model.new ≡ lenders model.old }
+    ensures answer { MatchResult result (λ a. Accepted (sheet_of sheet.now) starts.now inputs.now n × Ran (M.meaning model.old) (sheet_of sheet.now) starts.now inputs.now n a place.new) (λ f. Refused (sheet_of sheet.now) starts.now inputs.now n f × (place.new ≡ place.old) × (model.new ≡ model.old)) }
+    ensures kept { M.meaning model.new ≡ M.meaning model.old }
+    ensures lent { M.lenders model.new ≡ M.lenders model.old }
 {
     accept(sheet, starts, n, inputs)?;
     Ok(carry_out(sheet, model, starts, n, inputs, place))
@@ -100,9 +100,9 @@ pub fn run<M: Model>(
     n: u32,
     inputs: &[u32],
 ) -> Result<Option<u32>, Fault>
-    ensures answer { MatchResult result (λ a. Accepted (sheet_of sheet.now) starts.now inputs.now n × FirstBreak (meaning model.old) (sheet_of sheet.now) starts.now inputs.now n a) (λ f. Refused (sheet_of sheet.now) starts.now inputs.now n f × (model.new ≡ model.old)) }
-    ensures kept { meaning model.new ≡ meaning model.old }
-    ensures lent { lenders model.new ≡ lenders model.old }
+    ensures answer { MatchResult result (λ a. Accepted (sheet_of sheet.now) starts.now inputs.now n × FirstBreak (M.meaning model.old) (sheet_of sheet.now) starts.now inputs.now n a) (λ f. Refused (sheet_of sheet.now) starts.now inputs.now n f × (model.new ≡ model.old)) }
+    ensures kept { M.meaning model.new ≡ M.meaning model.old }
+    ensures lent { M.lenders model.new ≡ M.lenders model.old }
 {
     let mut place = Configuration::BLANK;
     run_to(sheet, model, starts, n, inputs, &mut place)

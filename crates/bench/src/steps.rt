@@ -22,9 +22,9 @@ pub(crate) fn begin<M: Model>(
     starts: &[u32],
     place: &mut Configuration,
 )
-    ensures place { Runnable (sheet_of sheet.now) → Holds place.new (start (meaning model.old) (sheet_of sheet.now) starts.now) }
-    ensures kept { meaning model.new ≡ meaning model.old }
-    ensures lent { lenders model.new ≡ lenders model.old }
+    ensures place { Runnable (sheet_of sheet.now) → Holds place.new (start (M.meaning model.old) (sheet_of sheet.now) starts.now) }
+    ensures kept { M.meaning model.new ≡ M.meaning model.old }
+    ensures lent { M.lenders model.new ≡ M.lenders model.old }
 {
     start_bits(sheet.parts.bits.as_slice(), &mut place.bits);
     start_readings(
@@ -46,10 +46,10 @@ pub(crate) fn judge<M: Model>(
 ) -> bool
     requires flags { Flags (sheet_of sheet.now).terms flags.now }
     requires room { (length flags.now ≡ 64) × (length values.old ≡ 64) }
-    ensures known { Known false flags.now (term_values (meaning model.old) place.now.readings [] (sheet_of sheet.now).terms) values.new }
-    ensures answer { Runnable (sheet_of sheet.now) → (c : State) → Holds place.now c → result ≡ invariant_holds (meaning model.old) (sheet_of sheet.now) c }
-    ensures kept { meaning model.new ≡ meaning model.old }
-    ensures lent { lenders model.new ≡ lenders model.old }
+    ensures known { Known false flags.now (term_values (M.meaning model.old) place.now.readings [] (sheet_of sheet.now).terms) values.new }
+    ensures answer { Runnable (sheet_of sheet.now) → (c : State) → Holds place.now c → result ≡ invariant_holds (M.meaning model.old) (sheet_of sheet.now) c }
+    ensures kept { M.meaning model.new ≡ M.meaning model.old }
+    ensures lent { M.lenders model.new ≡ M.lenders model.old }
 {
     evaluate(
         model,
@@ -76,10 +76,10 @@ pub(crate) fn advance<M: Model>(
 )
     requires flags { Flags (sheet_of sheet.now).terms flags.now }
     requires room { (length flags.now ≡ 64) × (length values.old ≡ 64) }
-    requires known { Known false flags.now (term_values (meaning model.old) place.old.readings [] (sheet_of sheet.now).terms) values.old }
-    ensures place { Runnable (sheet_of sheet.now) → (c : State) → Holds place.old c → Holds place.new (step (meaning model.old) (sheet_of sheet.now) c inputs.now) }
-    ensures kept { meaning model.new ≡ meaning model.old }
-    ensures lent { lenders model.new ≡ lenders model.old }
+    requires known { Known false flags.now (term_values (M.meaning model.old) place.old.readings [] (sheet_of sheet.now).terms) values.old }
+    ensures place { Runnable (sheet_of sheet.now) → (c : State) → Holds place.old c → Holds place.new (step (M.meaning model.old) (sheet_of sheet.now) c inputs.now) }
+    ensures kept { M.meaning model.new ≡ M.meaning model.old }
+    ensures lent { M.lenders model.new ≡ M.lenders model.old }
 {
     evaluate(
         model,

@@ -47,9 +47,9 @@ pub(crate) fn flag_inputs(terms: &[TermEntry], flags: &mut [bool])
 }
 
 fn value_of_symbol<M: Model>(model: &mut M, symbol: u8, args: Args, earlier: &[u32]) -> u32
-    ensures answer { result ≡ meaning model.old symbol (arg_values earlier.now args) }
-    ensures kept { meaning model.new ≡ meaning model.old }
-    ensures lent { lenders model.new ≡ lenders model.old }
+    ensures answer { result ≡ M.meaning model.old symbol (arg_values earlier.now args) }
+    ensures kept { M.meaning model.new ≡ M.meaning model.old }
+    ensures lent { M.lenders model.new ≡ M.lenders model.old }
 {
     match args {
         Args::Zero => model.apply(symbol, &[]),
@@ -79,9 +79,9 @@ fn value_of_term<M: Model>(
     inputs: &[u32],
     earlier: &[u32],
 ) -> u32
-    ensures answer { result ≡ term_value (meaning model.old) readings.now inputs.now earlier.now term }
-    ensures kept { meaning model.new ≡ meaning model.old }
-    ensures lent { lenders model.new ≡ lenders model.old }
+    ensures answer { result ≡ term_value (M.meaning model.old) readings.now inputs.now earlier.now term }
+    ensures kept { M.meaning model.new ≡ M.meaning model.old }
+    ensures lent { M.lenders model.new ≡ M.lenders model.old }
 {
     match term {
         Term::Reading(r) => at_or(readings, r, 0),
@@ -103,10 +103,10 @@ pub(crate) fn evaluate<M: Model>(
 )
     requires flags { Flags (map term_in terms.now) flags.now }
     requires room { length flags.now ≡ length values.old }
-    requires early { late ≡ true → Known false flags.now (term_values (meaning model.old) readings.now inputs.now (map term_in terms.now)) values.old }
-    ensures known { Known late flags.now (term_values (meaning model.old) readings.now inputs.now (map term_in terms.now)) values.new }
-    ensures kept { meaning model.new ≡ meaning model.old }
-    ensures lent { lenders model.new ≡ lenders model.old }
+    requires early { late ≡ true → Known false flags.now (term_values (M.meaning model.old) readings.now inputs.now (map term_in terms.now)) values.old }
+    ensures known { Known late flags.now (term_values (M.meaning model.old) readings.now inputs.now (map term_in terms.now)) values.new }
+    ensures kept { M.meaning model.new ≡ M.meaning model.old }
+    ensures lent { M.lenders model.new ≡ M.lenders model.old }
 {
     for k in 0..values.len() {
         if flags[k] == late {

@@ -1,7 +1,7 @@
 //! A model of one value that writes down which symbols it is asked for.
 ghost use Rattle.std.specs.Prelude.{[]};
 
-use plant::Model;
+use plant::Model as PlantModel;
 
 /// Answers the same value to every question, and keeps the symbols of the first eight.
 #[derive(Drop)]
@@ -11,7 +11,7 @@ pub struct Recorder {
     pub asked: usize,
 }
 
-pub impl Model for Recorder as RecorderModel {
+impl PlantModel for Recorder {
     ghost meaning = { λ r _ _. r.value };
 
     ghost lenders = { λ _. [] };

@@ -1,13 +1,13 @@
 -- The last configuration as it is printed.
-use Rattle.std.proofs.Common.{◌≡◌, ℕ, zero, suc, ◌<◌, ◌≤◌, Bool, true, false, List, [], ◌∷◌, ◌++◌, map, length, get_or, take, Option, sym, refl, ap, ◌∙◌, ap₂, arith, leb-true}
+use Rattle.std.proofs.Common.{◌≡◌, ℕ, zero, suc, ◌≤◌, Bool, false, List, ◌++◌, length, take, Option, sym, ◌∙◌, ap₂, arith, leb-true}
 use lib.ListN.{length-map}
 use Rattle.std.proofs.lemmas.List.{ext_get_or, length-take-le, get_or-take}
 use Rattle.sheet.specs.Lawful.{Lawful}
-use Rattle.sheet.specs.Runs.{after, start_bit, start_reading, numbered, next_bit, next_reading, inputs_of}
+use Rattle.sheet.specs.Runs.{after, start_bit, start_reading, next_bit, next_reading, inputs_of}
 use Rattle.sheet.specs.System.{System}
 use Rattle.sheet.specs.Truth.{Meaning}
 use Rattle.bench.specs.declared.configuration.Configuration.{Configuration as Place}
-use Rattle.bench.specs.Outcome.{Same, Holds, Ran, Accepted, last_of}
+use Rattle.bench.specs.Outcome.{Same, Ran, Accepted, last_of}
 use Rattle.bench.proofs.Filling.{numbered-length}
 use Rattle.bench.proofs.Going.{runnable}
 use Rattle.bench_text.specs.Lines.{answer_line, last_line}

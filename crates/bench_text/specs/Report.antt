@@ -11,7 +11,7 @@ use Rattle.reader.specs.Law.{ReadAs, RefusedBy}
 use Rattle.plant.specs.Listed.{listed}
 use Rattle.plant.specs.Affine.{affine}
 use Rattle.bench.specs.Outcome.{Accepted, Refused, last_of}
-use Rattle.run_file.specs.Reading.{Said, listed_plant, affine_plant, Run, run_said}
+use Rattle.run_file.specs.Reading.{Said, listed_plant, affine_plant, Run}
 use Rattle.run_file_error.specs.declared.LineError.{LineError}
 use Rattle.run_file_error.specs.Texts.{line_text}
 use Rattle.bench_text.specs.Lines.{head_of, answer_line, last_line}

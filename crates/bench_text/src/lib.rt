@@ -143,7 +143,7 @@ fn run_text<M: Model>(
     n: u32,
     inputs: &[u32],
 ) -> Result<String, AllocError>
-    ensures { IfOk result (λ t. RunText (meaning model.old) (sheet_of sheet.now) starts.now inputs.now n (string_bytes t)) }
+    ensures { IfOk result (λ t. RunText (M.meaning model.old) (sheet_of sheet.now) starts.now inputs.now n (string_bytes t)) }
 {
     let mut place = Configuration::BLANK;
     match run_to(sheet, model, starts, n, inputs, &mut place) {

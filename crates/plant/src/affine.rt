@@ -4,7 +4,7 @@ ghost use Rattle.plant.specs.Affine.{curve_of, FirstCurve, sum, affine, meaning_
 ghost use Rattle.fault.specs.declared.Fault.TheVariants.{Model as isModel};
 ghost use Rattle.fault.specs.declared.ModelFault.TheVariants.{ZeroModulus};
 
-use super::Model;
+use super::Model as PlantModel;
 use fault::{Fault, ModelFault};
 
 /// The coefficients of one symbol: p, q and r for its three arguments, and s alone.
@@ -82,7 +82,7 @@ fn sum_at(curve: Curve, values: &[u32]) -> u64
         + u64::from(curve.s)
 }
 
-pub impl<'a> Model for Affine<'a> as AffineModel {
+impl<'a> PlantModel for Affine<'a> {
     ghost meaning = { meaning_of };
 
     ghost lenders = { λ _. [] };

@@ -2,7 +2,7 @@
 ghost use Rattle.std.specs.Prelude.{◌≡◌, ℕ, List, []};
 ghost use Rattle.plant.specs.Listed.{fits, listed, FirstFitting, meaning_of};
 
-use super::Model;
+use super::Model as PlantModel;
 
 /// Up to three values.
 #[derive(Clone, Copy, Debug, PartialEq, Eq)]
@@ -64,7 +64,7 @@ fn first_fitting(default: u32, entries: &[Entry], symbol: u8, values: &[u32]) ->
     default
 }
 
-pub impl<'a> Model for Listed<'a> as ListedModel {
+impl<'a> PlantModel for Listed<'a> {
     ghost meaning = { meaning_of };
 
     ghost lenders = { λ _. [] };

@@ -1,7 +1,7 @@
 //! A layer over any model that counts the questions put to it: a model with the meaning of the one below.
 ghost use Rattle.std.specs.Prelude.{◌≡◌, ◌+◌, ◌-◌, ◌^◌, min, ◌∷◌};
 
-use plant::Model;
+use plant::Model as PlantModel;
 
 /// The count after one more question; the largest count stays.
 fn one_more(asked: u64) -> u64
@@ -17,15 +17,15 @@ pub struct Counted<M> {
     pub asked: u64,
 }
 
-pub impl<M: Model> Model for Counted<M> as CountedModel {
-    ghost meaning = { λ layer. M.Model.meaning layer.below };
+impl<M: PlantModel> PlantModel for Counted<M> {
+    ghost meaning = { λ layer. M.meaning layer.below };
 
-    ghost lenders = { λ layer. M.Model.lenders layer.below };
+    ghost lenders = { λ layer. M.lenders layer.below };
 
     fn apply(&mut self, symbol: u8, values: &[u32]) -> u32
-        ensures answer { result ≡ M.Model.meaning self.old.below symbol values.now }
-        ensures kept { M.Model.meaning self.new.below ≡ M.Model.meaning self.old.below }
-        ensures lent { M.Model.lenders self.new.below ≡ M.Model.lenders self.old.below }
+        ensures answer { result ≡ M.meaning self.old.below symbol values.now }
+        ensures kept { M.meaning self.new.below ≡ M.meaning self.old.below }
+        ensures lent { M.lenders self.new.below ≡ M.lenders self.old.below }
         ensures counted { self.new.asked ≡ min (self.old.asked + 1) (2 ^ 64 - 1) }
     {
         self.asked = one_more(self.asked);
@@ -40,10 +40,10 @@ pub struct CountedOver<'a, M> {
     pub asked: u64,
 }
 
-pub impl<'a, M: Model> Model for CountedOver<'a, M> as CountedOverModel {
-    ghost meaning = { λ layer. M.Model.meaning layer.below.now };
+impl<'a, M: PlantModel> PlantModel for CountedOver<'a, M> {
+    ghost meaning = { λ layer. M.meaning layer.below.now };
 
-    ghost lenders = { λ layer. layer.below.ghost_name ∷ M.Model.lenders layer.below.now };
+    ghost lenders = { λ layer. layer.below.ghost_name ∷ M.lenders layer.below.now };
 
     fn apply(&mut self, symbol: u8, values: &[u32]) -> u32 {
         self.asked = one_more(self.asked);

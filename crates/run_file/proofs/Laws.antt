@@ -1,12 +1,12 @@
 -- The laws of the run file's grammar. Assumes nothing.
-use Rattle.std.proofs.Common.{◌≡◌, ℕ, ◌+◌, ◌^◌, ◌<◌, ◌≤◌, Bool, true, false, cond, eqb, List, [], ◌∷◌, ◌++◌, length, Some, None, Ok, Err, decimal, Option, Result, sym, refl, ap, ◌∙◌, subst, arith, rules, eqb-true}
+use Rattle.std.proofs.Common.{◌≡◌, ℕ, ◌+◌, ◌^◌, ◌<◌, ◌≤◌, Bool, true, false, cond, eqb, List, [], ◌∷◌, length, Some, None, Ok, Err, decimal, Option, Result, sym, refl, ap, ◌∙◌, arith, rules, eqb-true}
 use borrow.Author.Tests.{eqb-false}
 use Rattle.std.proofs.lemmas.Fmt.{digits_decimal, digits_value-decimal}
 use Rattle.std.proofs.lemmas.Str.Parse.{IsNumeralModel, numerals_by_fold}
 use Rattle.std.specs.List.{AllByRecursion}
 use Rattle.run_file.specs.Directive.{and_then}
 use Rattle.run_file.specs.Grammar.{joined_by, Without, Grammar}
-use Rattle.run_file.specs.Reading.{Sofar, Run, line_says, at_line, following, finished, present, run_said, nothing}
+use Rattle.run_file.specs.Reading.{Sofar, line_says, at_line, following, finished, present, run_said, nothing}
 use Rattle.run_file.specs.Text.{pieces, longer, lines_of, words_of, all_digits, value_after, small, number_of, stops_at}
 use Rattle.run_file_error.specs.declared.LineError.{LineError}
 use Rattle.run_file_error.specs.declared.Problem.{Problem}

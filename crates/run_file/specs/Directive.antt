@@ -1,5 +1,5 @@
 -- What the numbers of one directive say. Assumes nothing.
-use Rattle.std.specs.Prelude.{ℕ, Bool, true, false, cond, ◌&&◌, List, [], ◌∷◌, Some, None, Ok, Err, codes, Option, Result, nat_lt}
+use Rattle.std.specs.Prelude.{ℕ, cond, List, [], ◌∷◌, Some, None, Ok, Err, codes, Option, Result, nat_lt}
 use Rattle.run_file_error.specs.declared.Problem.{Problem}
 use Rattle.run_file_error.specs.declared.Problem.TheVariants.{TooFewNumbers, TooManyNumbers, SymbolTooLarge, CoefficientTooLarge}
 use Rattle.run_file.specs.declared.directive.Keyword.{Keyword}

@@ -1,5 +1,5 @@
 -- What a run file says, line by line. Assumes nothing.
-use Rattle.std.specs.Prelude.{◌≡◌, ℕ, ◌+◌, Bool, true, false, cond, List, [], ◌∷◌, ◌++◌, length, Some, None, Ok, Err, vec_items, Option, Result}
+use Rattle.std.specs.Prelude.{◌≡◌, ℕ, ◌+◌, List, [], ◌∷◌, ◌++◌, length, Some, None, Ok, Err, vec_items, Option, Result}
 use Rattle.plant.specs.declared.affine.Curve.{Curve}
 use Rattle.plant.specs.declared.listed.Entry.{Entry}
 use Rattle.run_file.specs.Directive.{and_then, keyword_of, one_of, entry_of, curve_of}

@@ -1,5 +1,5 @@
 -- Lines, words and numbers of a text of bytes. Assumes nothing.
-use Rattle.std.specs.Prelude.{ℕ, ◌+◌, ◌-◌, ◌*◌, ◌^◌, Bool, true, false, cond, not, ◌&&◌, ◌||◌, List, [], ◌∷◌, Ok, Err, Result, ◌==◌, nat_le, nat_lt}
+use Rattle.std.specs.Prelude.{ℕ, ◌+◌, ◌-◌, ◌*◌, ◌^◌, Bool, true, cond, not, ◌&&◌, ◌||◌, List, [], ◌∷◌, Ok, Err, Result, ◌==◌, nat_le, nat_lt}
 use Rattle.run_file_error.specs.declared.Problem.{Problem}
 use Rattle.run_file_error.specs.declared.Problem.TheVariants.{NotANumber, NumberTooLarge}
 use Rattle.run_file.specs.declared.words.Stop.{Stop}

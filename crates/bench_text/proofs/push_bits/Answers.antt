@@ -11,10 +11,10 @@ loop-bit-preserved c =
     let more = drop (c.loop-bit.bit-index + 1) all in
     let e : spaced (drop c.loop-bit.bit-index all) ≡ (codes " " ++ decimal n) ++ spaced more = at_drop_more spaced all c.loop-bit.bit-index 0 (omega (arith, c.loop-bit-test.true, length-map c.args.bits.now bit_number)) in
     let v = get_or-map bit_number c.args.bits.now c.loop-bit.bit-index false 0 c.loop-bit-test.true in
-    let b = c.number-of-n.ensures in
-    let p = c.in-ok-push-str.ensures.bytes in
-    let q = c.as-str.ensures.value in
-    let w = c.in-ok-word.ensures.ok in
+    let b = c.number_of-n.ensures in
+    let p = c.in_ok-push_str.ensures.bytes in
+    let q = c.as_str.ensures.value in
+    let w = c.in_ok-word.ensures.ok in
     let g = append_assoc (string_bytes c.loop-bit.text) (codes " " ++ decimal n) (spaced more) in
     let i = c.loop-bit.invariant in
     cc

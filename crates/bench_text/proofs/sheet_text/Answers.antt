@@ -10,7 +10,7 @@ pub returns-in-Ok : goal.returns-in-Ok
 returns-in-Ok c =
     let s = sheet_of c.read.new.place in
     let run = c.args.run.now in
-    IfOk-weaker c.plant-text.result _ _ (λ t is. whole s c.in-Ok.ensures.exact (subst (λ (l : List ℕ). PlantText s (plant_of run.plant) l (vec_items run.inputs) run.steps (string_bytes t)) c.as-slice-starts.ensures.value (subst (λ (l : List ℕ). PlantText s (plant_of run.plant) c.as-slice-starts.result.now l run.steps (string_bytes t)) c.as-slice-inputs.ensures.value is))) c.plant-text.ensures
+    IfOk-weaker c.plant_text.result _ _ (λ t is. whole s c.in-Ok.ensures.exact (subst (λ (l : List ℕ). PlantText s (plant_of run.plant) l (vec_items run.inputs) run.steps (string_bytes t)) c.as_slice-starts.ensures.value (subst (λ (l : List ℕ). PlantText s (plant_of run.plant) c.as_slice-starts.result.now l run.steps (string_bytes t)) c.as_slice-inputs.ensures.value is))) c.plant_text.ensures
 
 pub returns : goal.returns
-returns c = IfOk-weaker c.failure-line.result _ _ (λ t is. failed_text c.args.bytes.now (run_of c.args.run.now) (string_bytes t) c.in-Err.failure c.in-Err.ensures.exact is) c.failure-line.ensures
+returns c = IfOk-weaker c.failure_line.result _ _ (λ t is. failed_text c.args.bytes.now (run_of c.args.run.now) (string_bytes t) c.in-Err.failure c.in-Err.ensures.exact is) c.failure_line.ensures

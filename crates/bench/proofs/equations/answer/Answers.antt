@@ -9,7 +9,7 @@ pub loop-k-preserved : goal.loop-k-preserved
 loop-k-preserved c =
     let is : c.if-k-equations.out ≡ get_or (answers c.args.values.now c.args.equations.now) c.loop-k.k false =
     elim c.if-k-equations.branch [
-      | then-k-equations w ↦ w.out-is ∙ (w.is-equal.ensures ∙ sym (get_or-map (equal c.args.values.now) c.args.equations.now c.loop-k.k _ false w.if-k-equations.true))
+      | then-k-equations w ↦ w.out-is ∙ (w.is_equal.ensures ∙ sym (get_or-map (equal c.args.values.now) c.args.equations.now c.loop-k.k _ false w.if-k-equations.true))
       | else-k-equations w ↦ w.out-is ∙ map_past (equal c.args.values.now) c.args.equations.now c.loop-k.k false w.if-k-equations.false
     ] in
     filled_more false c.loop-k.out (answers c.args.values.now c.args.equations.now) c.loop-k.k c.if-k-equations.out (omega arith) is c.loop-k.invariant

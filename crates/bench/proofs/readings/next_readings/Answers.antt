@@ -12,7 +12,7 @@ loop-k-preserved c =
     let next : ℕ → Reading → ℕ = λ n r. or_kept given (get_or c.args.out.now n 0) r.next in
     let is : c.if-k-readings.out ≡ get_or (numbered next 0 c.args.readings.now) c.loop-k.k 0 =
     elim c.if-k-readings.branch [
-      | then-k-readings w ↦ w.out-is ∙ (w.next-reading.ensures ∙ (ap (λ x. or_kept given x (get_or c.args.readings.now c.loop-k.k no_reading).next) (c.loop-k.invariant.1 c.loop-k.k (omega arith)) ∙ sym (numbered_at next c.args.readings.now c.loop-k.k 0 no_reading w.if-k-readings.true)))
+      | then-k-readings w ↦ w.out-is ∙ (w.next_reading.ensures ∙ (ap (λ x. or_kept given x (get_or c.args.readings.now c.loop-k.k no_reading).next) (c.loop-k.invariant.1 c.loop-k.k (omega arith)) ∙ sym (numbered_at next c.args.readings.now c.loop-k.k 0 no_reading w.if-k-readings.true)))
       | else-k-readings w ↦ w.out-is ∙ numbered_past next c.args.readings.now c.loop-k.k 0 w.if-k-readings.false
     ] in
     (filled_more 0 c.loop-k.out (numbered next 0 c.args.readings.now) c.loop-k.k c.if-k-readings.out (omega arith) is c.loop-k.invariant.0, rest_more 0 c.loop-k.out c.args.out.now c.loop-k.k c.if-k-readings.out c.loop-k.invariant.1)

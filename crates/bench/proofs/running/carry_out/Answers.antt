@@ -1,4 +1,4 @@
-use Rattle.std.proofs.Common.{◌≡◌, ℕ, List, sym, refl, ap, ◌∙◌, subst, arith}
+use Rattle.std.proofs.Common.{◌≡◌, ℕ, List, sym, refl, ◌∙◌, subst, arith}
 use Rattle.sheet.specs.Runs.{Configuration, step, start, inputs_of, invariant_holds}
 use Rattle.sheet.specs.Truth.{Meaning}
 use Rattle.sheet.specs.View.{sheet_of}
@@ -16,8 +16,8 @@ returns-then-not-judge g c =
       lent = c.judge.ensures.lent ∙ (c.loop-i.invariant.3 ∙ c.begin.ensures.lent);
     }
 
-pub inputs-of-given-requires : goal.inputs-of-given-requires
-inputs-of-given-requires g c = part_fits c.loop-i.i c.args.n c.args.sheet.now.parts.inputs _ c.loop-i-test.true c.requires
+pub inputs_of-given-requires : goal.inputs_of-given-requires
+inputs_of-given-requires g c = part_fits c.loop-i.i c.args.n c.args.sheet.now.parts.inputs _ c.loop-i-test.true c.requires
 
 pub loop-i-init : goal.loop-i-init
 loop-i-init g c =
@@ -29,7 +29,7 @@ loop-i-preserved g c =
     let s = sheet_of c.args.sheet.now in
     let m : Meaning = g.M.Model.meaning c.begin.new.model in
     let before : g.M.Model.meaning c.judge.new.model ≡ m = c.judge.ensures.kept ∙ c.loop-i.invariant.2 in
-    (omega arith, (λ run. reached_next m s c.args.starts.now c.args.inputs.now c.loop-i.i c.loop-i.place c.advance.new.place c.judge.result (c.loop-i.invariant.1 run) c.if-not-judge.false (subst (λ (f : Meaning). (x : Configuration) → Holds c.loop-i.place x → c.judge.result ≡ invariant_holds f s x) c.loop-i.invariant.2 (c.judge.ensures.answer run)) (λ x h. subst (λ (f : Meaning). Holds c.advance.new.place (step f s x (inputs_of s c.args.inputs.now c.loop-i.i))) before (subst (λ (l : List ℕ). Holds c.advance.new.place (step (g.M.Model.meaning c.judge.new.model) s x l)) c.inputs-of-given.ensures (c.advance.ensures.place run x h)))), c.advance.ensures.kept ∙ before, c.advance.ensures.lent ∙ (c.judge.ensures.lent ∙ c.loop-i.invariant.3))
+    (omega arith, (λ run. reached_next m s c.args.starts.now c.args.inputs.now c.loop-i.i c.loop-i.place c.advance.new.place c.judge.result (c.loop-i.invariant.1 run) c.if-not-judge.false (subst (λ (f : Meaning). (x : Configuration) → Holds c.loop-i.place x → c.judge.result ≡ invariant_holds f s x) c.loop-i.invariant.2 (c.judge.ensures.answer run)) (λ x h. subst (λ (f : Meaning). Holds c.advance.new.place (step f s x (inputs_of s c.args.inputs.now c.loop-i.i))) before (subst (λ (l : List ℕ). Holds c.advance.new.place (step (g.M.Model.meaning c.judge.new.model) s x l)) c.inputs_of-given.ensures (c.advance.ensures.place run x h)))), c.advance.ensures.kept ∙ before, c.advance.ensures.lent ∙ (c.judge.ensures.lent ∙ c.loop-i.invariant.3))
 
 pub returns-then-judge : goal.returns-then-judge
 returns-then-judge g c =

@@ -1,5 +1,4 @@
-use Rattle.std.proofs.Common.{◌≡◌, ℕ, ◌<◌, true, length}
-use Rattle.sheet.specs.Runs.{after, invariant_holds}
+use Rattle.std.proofs.Common.{◌≡◌, length}
 use Rattle.sheet.specs.View.{sheet_of}
 use Rattle.bench.specs.Outcome.{Runnable}
 use Rattle.bench.proofs.Going.{Reached}

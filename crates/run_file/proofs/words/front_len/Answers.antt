@@ -1,4 +1,4 @@
-use Rattle.std.proofs.Common.{length, sym, ◌∙◌, arith, below_more}
+use Rattle.std.proofs.Common.{length, sym, arith, below_more}
 use Rattle.run_file.specs.Text.{stops_at}
 use Rattle.run_file.proofs.Fronts.{until_at}
 use Rattle.run_file.proofs.words.front_len.Goals as goal

@@ -1,7 +1,7 @@
-use Rattle.std.proofs.Common.{◌≡◌, ℕ, ◌+◌, ◌-◌, ap, arith}
+use Rattle.std.proofs.Common.{◌≡◌, ◌+◌, ◌-◌, ap, arith}
 use Rattle.std.proofs.lemmas.Bool.Decides.{Decides-eqb}
 use Rattle.plant.specs.declared.affine.Curve.{Curve}
-use Rattle.plant.specs.Affine.{affine, zeros}
+use Rattle.plant.specs.Affine.{affine}
 use Rattle.plant.proofs.Firsts.{first}
 use Rattle.plant.proofs.affine.Affine.new.Goals as goal
 
