@@ -1,6 +1,6 @@
-use Rattle.std.proofs.Common.{◌≡◌, ◌++◌, sym, ap, ◌∙◌}
+use Rattle.std.proofs.Common.{◌++◌, sym, ap, ◌∙◌}
 use Rattle.std.proofs.lemmas.Result.{MatchResult-weaker}
-use Rattle.terms.specs.Terms.{unary, binary, ternary}
+use Rattle.terms.specs.Terms.{binary, ternary}
 use Rattle.terms.specs.Bank.{term_at}
 use Rattle.notation.specs.Written.{written}
 use Rattle.terms.proofs.Filing.{extends_more}

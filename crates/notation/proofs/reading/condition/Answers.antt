@@ -1,4 +1,4 @@
-use Rattle.std.proofs.Common.{◌≡◌, ◌++◌, sym, ap, ◌∙◌, arith}
+use Rattle.std.proofs.Common.{◌++◌, sym, ap, ◌∙◌, arith}
 use Rattle.terms.specs.Bank.{term_at}
 use Rattle.notation.specs.Written.{written}
 use Rattle.terms.proofs.Filing.{extends_more}
