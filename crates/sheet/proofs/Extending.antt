@@ -1,7 +1,7 @@
 -- What later records leave as it was, and that the rules for a record do not change by it.
-use Rattle.std.proofs.Common.{◌≡◌, ℕ, suc, ◌+◌, ◌<◌, ◌≤◌, max, Bool, true, false, cond, not, ◌&&◌, ◌||◌, eqb, ltb, leb, ◌⊎◌, List, [], ◌∷◌, ◌++◌, map, length, get_or, set, is_some, Some, None, Option, sym, refl, ap, ◌∙◌, subst, ap₂, inl, inr, ⊎_elim, append_assoc, arith, length-append, length-set}
-use Rattle.std.proofs.lemmas.List.{append-nil, get_or_append_left, get_or-set_same, get_or-set_other, set_past, map-append, length_push}
-use Rattle.std.proofs.lemmas.Bool.Decides.{nat_tests, eqb_tells}
+use Rattle.std.proofs.Common.{◌≡◌, ℕ, ◌+◌, ◌<◌, ◌≤◌, max, Bool, true, not, ◌&&◌, ◌||◌, eqb, ltb, List, [], ◌∷◌, ◌++◌, length, get_or, Some, Option, sym, refl, ap, ◌∙◌, ap₂, append_assoc, arith, length-append}
+use Rattle.std.proofs.lemmas.List.{append-nil, get_or_append_left}
+use Rattle.std.proofs.lemmas.Bool.Decides.{nat_tests}
 use Rattle.sheet.specs.declared.syntax.Args.{Args}
 use Rattle.sheet.specs.declared.syntax.Args.TheVariants.{Zero, One, Two, Three}
 use Rattle.sheet.specs.declared.syntax.Bit.{Bit}
@@ -15,9 +15,9 @@ use Rattle.sheet.specs.declared.syntax.TermInfo.{TermInfo}
 use Rattle.sheet.specs.declared.syntax.FormulaInfo.{FormulaInfo}
 use Rattle.sheet.specs.Format.{kind_of}
 use Rattle.sheet.specs.Grow.{grow}
-use Rattle.sheet.specs.Rules.{term_info, term_infos, args_info, args_below, arg_count, formula_info, formula_infos, no_info, plain, names, keeps, obeys_at, count, fresh, contains_input, contains_claim, contains_question}
-use Rattle.sheet.specs.System.{System, add, no_bit, no_reading}
-use Rattle.sheet.proofs.Eaches.{left_true, right_true, both_true}
+use Rattle.sheet.specs.Rules.{term_info, term_infos, args_info, args_below, formula_info, formula_infos, no_info, plain, names, keeps, count, contains_claim, contains_question}
+use Rattle.sheet.specs.System.{System, no_bit, no_reading}
+use Rattle.sheet.proofs.Eaches.{right_true}
 use Rattle.sheet.proofs.Growing.{grow-length, grow-keeps}
 
 -- xs stands at the front of ys

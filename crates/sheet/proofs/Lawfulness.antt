@@ -1,5 +1,5 @@
 -- One record more keeps a sheet lawful.
-use Rattle.std.proofs.Common.{◌≡◌, ℕ, suc, ◌+◌, ◌<◌, ◌≤◌, Bool, true, false, not, ◌&&◌, eqb, ltb, leb, ◌⊎◌, List, [], ◌∷◌, ◌++◌, length, get_or, set, is_some, Some, None, Option, sym, refl, ap, ◌∙◌, subst, inl, inr, ⊎_elim, zero-add, arith, length-set}
+use Rattle.std.proofs.Common.{◌≡◌, ℕ, suc, ◌+◌, ◌<◌, ◌≤◌, Bool, true, false, not, eqb, ltb, leb, ◌⊎◌, List, [], ◌∷◌, ◌++◌, length, get_or, set, is_some, Some, None, Option, sym, refl, ap, ◌∙◌, inl, inr, zero-add, arith, length-set}
 use Rattle.std.proofs.lemmas.List.{get_or_append_left, get_or_past, get_or-set_same, get_or-set_other, set_past, length_push}
 use Rattle.std.proofs.lemmas.Bool.Decides.{nat_tests, eqb_tells, leb_tells}
 use Rattle.sheet.specs.declared.syntax.Bit.{Bit}
@@ -11,7 +11,7 @@ use Rattle.sheet.specs.Lawful.{each_at, given, Few, LawfulIn, Lawful}
 use Rattle.sheet.specs.Rules.{names, keeps, obeys_at, count, room, fresh}
 use Rattle.sheet.specs.System.{System, add, no_bit, no_reading}
 use Rattle.sheet.proofs.Eaches.{both_true, left_true, right_true, each_push, each_set, each_at-index, each_weaker}
-use Rattle.sheet.proofs.Extending.{Kept, next_of_bit, next_of_reading, StartsKept, GivenKept, Extends, extends_refl, extends_trans, prefix_push, prefix_length, names_kept, keeps_same}
+use Rattle.sheet.proofs.Extending.{Kept, next_of_bit, next_of_reading, StartsKept, GivenKept, Extends, extends_refl, prefix_push, prefix_length, names_kept, keeps_same}
 
 abbrev new_bit : Bool → Bit
 new_bit b = record { start = b; next = None }

@@ -7,7 +7,6 @@ use Rattle.sheet.specs.declared.syntax.Choice.{Choice}
 use Rattle.sheet.specs.declared.syntax.Formula.{Formula}
 use Rattle.sheet.specs.declared.syntax.FormulaEntry.{FormulaEntry}
 use Rattle.sheet.specs.Stored.{formula_in}
-use Rattle.sheet.specs.Grow.{grow}
 use Rattle.sheet.specs.Memo.{Remembers, before, operands_of, connected, grounded}
 use Rattle.sheet.specs.Truth.{truth_of, truths, term_of_choice, chosen}
 use Rattle.sheet.proofs.Growing.{grow_at, grow-length}
@@ -132,7 +131,7 @@ nones (suc n) zero = refl
 nones (suc n) (suc k) = nones n k
 
 pub remembers_none : {V : Type 0} (d : V) (values : List V) (n : ℕ) → Remembers d values (replicate n None)
-remembers_none d values n k v e = absurd (none_some (sym (nones n k) ∙ e))
+remembers_none d _ n k v e = absurd (none_some (sym (nones n k) ∙ e))
 
 -- one value more of a list that is filled in
 pub filled_more : {V : Type 0} (d : V) (out values : List V) (n : ℕ) (v : V) → n < length out → v ≡ get_or values n d → ((k : ℕ) → k < n → get_or out k d ≡ get_or values k d) → (k : ℕ) → k < n + 1 → get_or (set out n v) k d ≡ get_or values k d

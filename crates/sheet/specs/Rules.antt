@@ -1,9 +1,8 @@
 -- The rules that a record obeys after those before it. Assumes nothing.
-use Rattle.std.specs.Prelude.{ℕ, ◌+◌, max, Bool, true, false, cond, not, ◌&&◌, ◌||◌, List, [], length, get_or, is_some, Some, None, Option, ◌==◌, nat_lt, slice_index, slice_index_or}
+use Rattle.std.specs.Prelude.{ℕ, ◌+◌, max, Bool, true, false, not, ◌&&◌, ◌||◌, List, [], length, get_or, is_some, Some, None, Option, ◌==◌, nat_lt, slice_index, slice_index_or}
 use Rattle.sheet.specs.declared.syntax.Args.{Args}
 use Rattle.sheet.specs.declared.syntax.Args.TheVariants.{Zero, One, Two, Three}
 use Rattle.sheet.specs.declared.syntax.Choice.{Choice}
-use Rattle.sheet.specs.declared.syntax.Equation.{Equation}
 use Rattle.sheet.specs.declared.syntax.Formula.{Formula}
 use Rattle.sheet.specs.declared.syntax.FormulaInfo.{FormulaInfo}
 use Rattle.sheet.specs.declared.kind.Kind.{Kind}

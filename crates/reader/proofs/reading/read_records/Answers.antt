@@ -3,7 +3,7 @@ use Rattle.std.proofs.Common.{vec_items}
 use Rattle.reader.proofs.Exact.{ended_lawful}
 use Rattle.reader.proofs.reading.read_records.Goals as goal
 
-pub into-sheet-requires : goal.into-sheet-requires
-into-sheet-requires c =
+pub into_sheet-requires : goal.into_sheet-requires
+into_sheet-requires c =
     let ended = MatchOption-at_none _ _ c.in-default.is c.in-ok-next.ensures in
     record { whole = ended.whole; lawful = ended_lawful c.args.bytes.now c.advance.new.draft (vec_items c.advance.new.records) ended; informed = ended.informed }

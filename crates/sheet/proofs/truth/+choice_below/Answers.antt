@@ -23,11 +23,11 @@ returns t c =
     let is : c.match-choice.value ≡ get_or all c.args.n 0 =
     elim c.match-choice.branch [
       | in-Term w ↦ choice_term truth c.args.choices.now c.args.n c.if-n-choices.false (Choice.Term 0) w.in-Term.t c.match-choice.value w.in-Term.is w.value-is
-      | in-If w ↦ choice_if truth c.args.choices.now c.args.n c.if-n-choices.false (Choice.Term 0) w.in-If.f w.in-If.a w.in-If.b c.match-choice.value w.in-If.is (w.value-is ∙ (w.choice-below-value.ensures.value ∙ ap (λ j. before 0 all j c.args.n) (w.pick-next.ensures ∙ ap (λ x. cond x w.in-If.a w.in-If.b) w.bit-of.ensures)))
+      | in-If w ↦ choice_if truth c.args.choices.now c.args.n c.if-n-choices.false (Choice.Term 0) w.in-If.f w.in-If.a w.in-If.b c.match-choice.value w.in-If.is (w.value-is ∙ (w.choice_below-value.ensures.value ∙ ap (λ j. before 0 all j c.args.n) (w.pick-next.ensures ∙ ap (λ x. cond x w.in-If.a w.in-If.b) w.bit_of.ensures)))
     ] in
     let kept : Remembers 0 all c.match-choice.known =
     elim c.match-choice.branch [
       | in-Term w ↦ subst (Remembers 0 all) (sym w.known-is) c.requires
-      | in-If w ↦ subst (Remembers 0 all) (sym w.known-is) w.choice-below-value.ensures.known
+      | in-If w ↦ subst (Remembers 0 all) (sym w.known-is) w.choice_below-value.ensures.known
     ] in
     record { value = is ∙ sym (before_here 0 all c.args.n c.args.below c.if-n-below.false); known = λ k v q. remembers_set 0 all c.match-choice.known c.args.n c.match-choice.value kept is k v (ap (λ l. get_or l k None) (sym c.remember.ensures) ∙ q) }

@@ -6,4 +6,4 @@ use Rattle.sheet.proofs.truth.all_truths.Goals as goal
 
 pub loop-n-preserved : goal.loop-n-preserved
 loop-n-preserved c =
-    (c.truth-of.ensures.known, filled_more false c.loop-n.out (truths c.args.bits.now c.args.questions.now c.args.claims.now (map formula_in c.args.formulas.now)) c.loop-n.n c.truth-of.result (omega (arith, c.loop-n-test.true, c.loop-n.auto.out)) c.truth-of.ensures.value c.loop-n.invariant.1)
+    (c.truth_of.ensures.known, filled_more false c.loop-n.out (truths c.args.bits.now c.args.questions.now c.args.claims.now (map formula_in c.args.formulas.now)) c.loop-n.n c.truth_of.result (omega (arith, c.loop-n-test.true, c.loop-n.auto.out)) c.truth_of.ensures.value c.loop-n.invariant.1)

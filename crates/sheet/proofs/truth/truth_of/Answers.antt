@@ -7,4 +7,4 @@ use Rattle.sheet.proofs.truth.truth_of.Goals as goal
 pub returns : goal.returns
 returns c =
     let all = truths c.args.bits.now c.args.questions.now c.args.claims.now (map formula_in c.args.formulas.now) in
-    record { value = c.truth-below.ensures.value ∙ before_all false all c.args.n _ (truths-length c.args.bits.now c.args.questions.now c.args.claims.now c.args.formulas.now); known = c.truth-below.ensures.known }
+    record { value = c.truth_below.ensures.value ∙ before_all false all c.args.n _ (truths-length c.args.bits.now c.args.questions.now c.args.claims.now c.args.formulas.now); known = c.truth_below.ensures.known }

@@ -7,4 +7,4 @@ use Rattle.reader.proofs.draft.Draft.add_formula.Goals as goal
 pub returns : goal.returns
 returns c =
     let p = nodes_push formula_in _ _ _ c.in-ok-push.ensures.items in
-    record { system = rw p; informed = record { terms = c.requires.terms; formulas = informed_push formula_in formula_info_in formula_info _ _ _ c.requires.formulas c.info-of-formula-info.ensures c.in-ok-push.ensures.items } }
+    record { system = rw p; informed = record { terms = c.requires.terms; formulas = informed_push formula_in formula_info_in formula_info _ _ _ c.requires.formulas c.info_of_formula-info.ensures c.in-ok-push.ensures.items } }

@@ -2,5 +2,5 @@ use Rattle.std.proofs.Common.{false}
 use Rattle.sheet.proofs.Memos.{remembers_none}
 use Rattle.sheet.proofs.sheet.Sheet.truths.Goals as goal
 
-pub all-truths-requires : goal.all-truths-requires
-all-truths-requires c = remembers_none false _ 64
+pub all_truths-requires : goal.all_truths-requires
+all_truths-requires c = remembers_none false _ 64
