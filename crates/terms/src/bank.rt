@@ -197,7 +197,7 @@ pub struct CountGuard<'a> {
 impl<'a> CountGuard<'a> {
     /// Takes the count over, and remembers it.
     pub fn new(count: &'a mut Count) -> Self
-        ensures lent { result.count.name ≡ count.entry.name }
+        ensures lent { result.count.ghost_name ≡ count.entry.ghost_name }
         ensures count { result.count.now ≡ count.old }
         ensures saved { result.saved ≡ count.old.terms }
     {
