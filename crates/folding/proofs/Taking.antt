@@ -1,6 +1,5 @@
 -- Whether an older row takes a form, from what is found of the vector and of the conditions.
-use Rattle.std.proofs.Common.{◌≡◌, ℕ, ◌<◌, ◌≤◌, Bool, true, false, ◌&&◌, eqb, List, ◌++◌, map, length, get_or, take, Some, None, Decides, sym, ap, ◌∙◌, subst}
-use lib.Bits.{bit_or}
+use Rattle.std.proofs.Common.{◌≡◌, ℕ, ◌<◌, ◌≤◌, Bool, true, false, ◌&&◌, eqb, List, ◌++◌, map, length, get_or, take, Some, None, Decides, sym, ap, ◌∙◌, subst, bit_or}
 use Rattle.std.specs.List.{AllByRecursion as All}
 use Rattle.sheet.specs.System.{System}
 use Rattle.terms.specs.declared.TermRecord.{TermRecord}

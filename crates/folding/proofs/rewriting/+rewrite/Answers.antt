@@ -11,7 +11,7 @@ use Rattle.folding.proofs.rewriting.+rewrite.Goals as goal
 
 pub returns-in-Some : goal.returns-in-Some
 returns-in-Some t c =
-    let k = c.requires.known c.args.place c.in-Some.became (sym c.at-or.ensures ∙ c.in-Some.is) in
+    let k = c.requires.known c.args.place c.in-Some.became (sym c.at_or.ensures ∙ c.in-Some.is) in
     (record { gained = gained_held c.args.bank.now c.args.count.now.terms _ c.requires.bank (c.in-Some.became, k.1, k.2); inside = k.1; is = k.2 }, c.requires.known)
 
 pub returns-in-Some-stop : goal.returns-in-Some-stop
@@ -57,7 +57,7 @@ returns-in-err-a t c =
     let a = c.in-Unary.a in
     let fit : Fit p (Unary f a) = subst (Fit p) c.in-Unary.is (c.requires.bank.ordered.fit p c.requires.inside) in
     let a_in : a < n = below a p n (fit) c.requires.inside in
-    let is = stopped_none rs n c.requires.bank p c.requires.inside ch c.requires.suits (sym c.in-default-stop.ensures) ∙ ap (term_of (arg rs ch)) c.in-Unary.is in
+    let is = stopped_none rs n c.requires.bank p c.requires.inside ch c.requires.suits (sym c.in_default-stop.ensures) ∙ ap (term_of (arg rs ch)) c.in-Unary.is in
     let has = unary_has rs ch p f a is in
     let w₀ = walked_none rs n ch c.requires.suits c.requires.bank c.args.known.now c.requires.known in
     broken_off rs n ch p (a ∷ []) [] has c.rewrite.new.bank c.rewrite.new.count.terms c.in-err-a.field-0.0
@@ -74,7 +74,7 @@ returns-in-ok-a t c =
     let a = c.in-Unary.a in
     let fit : Fit p (Unary f a) = subst (Fit p) c.in-Unary.is (c.requires.bank.ordered.fit p c.requires.inside) in
     let a_in : a < n = below a p n (fit) c.requires.inside in
-    let is = stopped_none rs n c.requires.bank p c.requires.inside ch c.requires.suits (sym c.in-default-stop.ensures) ∙ ap (term_of (arg rs ch)) c.in-Unary.is in
+    let is = stopped_none rs n c.requires.bank p c.requires.inside ch c.requires.suits (sym c.in_default-stop.ensures) ∙ ap (term_of (arg rs ch)) c.in-Unary.is in
     let has = unary_has rs ch p f a is in
     let w₀ = walked_none rs n ch c.requires.suits c.requires.bank c.args.known.now c.requires.known in
     let w₁ = walked_more rs n ch c.requires.suits [] rs n c.args.known.now w₀ a a_in c.rewrite.new.bank c.rewrite.new.count.terms c.rewrite.new.known c.in-ok-a.a c.in-ok-a.ensures in
@@ -93,7 +93,7 @@ returns-in-err-a-2 t c =
     let fit : Fit p (Binary f a b) = subst (Fit p) c.in-Binary.is (c.requires.bank.ordered.fit p c.requires.inside) in
     let a_in : a < n = below a p n fit.0 c.requires.inside in
     let b_in : b < n = below b p n fit.1 c.requires.inside in
-    let is = stopped_none rs n c.requires.bank p c.requires.inside ch c.requires.suits (sym c.in-default-stop.ensures) ∙ ap (term_of (arg rs ch)) c.in-Binary.is in
+    let is = stopped_none rs n c.requires.bank p c.requires.inside ch c.requires.suits (sym c.in_default-stop.ensures) ∙ ap (term_of (arg rs ch)) c.in-Binary.is in
     let has = binary_has rs ch p f a b is in
     let w₀ = walked_none rs n ch c.requires.suits c.requires.bank c.args.known.now c.requires.known in
     broken_off rs n ch p (a ∷ []) (b ∷ []) has c.rewrite-in-Binary.new.bank c.rewrite-in-Binary.new.count.terms c.in-err-a-2.field-0.0
@@ -112,7 +112,7 @@ returns-in-err-b t c =
     let fit : Fit p (Binary f a b) = subst (Fit p) c.in-Binary.is (c.requires.bank.ordered.fit p c.requires.inside) in
     let a_in : a < n = below a p n fit.0 c.requires.inside in
     let b_in : b < n = below b p n fit.1 c.requires.inside in
-    let is = stopped_none rs n c.requires.bank p c.requires.inside ch c.requires.suits (sym c.in-default-stop.ensures) ∙ ap (term_of (arg rs ch)) c.in-Binary.is in
+    let is = stopped_none rs n c.requires.bank p c.requires.inside ch c.requires.suits (sym c.in_default-stop.ensures) ∙ ap (term_of (arg rs ch)) c.in-Binary.is in
     let has = binary_has rs ch p f a b is in
     let w₀ = walked_none rs n ch c.requires.suits c.requires.bank c.args.known.now c.requires.known in
     let w₁ = walked_more rs n ch c.requires.suits [] rs n c.args.known.now w₀ a a_in c.rewrite-in-Binary.new.bank c.rewrite-in-Binary.new.count.terms c.rewrite-in-Binary.new.known c.in-ok-a-2.a c.in-ok-a-2.ensures in
@@ -133,7 +133,7 @@ returns-in-ok-b t c =
     let fit : Fit p (Binary f a b) = subst (Fit p) c.in-Binary.is (c.requires.bank.ordered.fit p c.requires.inside) in
     let a_in : a < n = below a p n fit.0 c.requires.inside in
     let b_in : b < n = below b p n fit.1 c.requires.inside in
-    let is = stopped_none rs n c.requires.bank p c.requires.inside ch c.requires.suits (sym c.in-default-stop.ensures) ∙ ap (term_of (arg rs ch)) c.in-Binary.is in
+    let is = stopped_none rs n c.requires.bank p c.requires.inside ch c.requires.suits (sym c.in_default-stop.ensures) ∙ ap (term_of (arg rs ch)) c.in-Binary.is in
     let has = binary_has rs ch p f a b is in
     let w₀ = walked_none rs n ch c.requires.suits c.requires.bank c.args.known.now c.requires.known in
     let w₁ = walked_more rs n ch c.requires.suits [] rs n c.args.known.now w₀ a a_in c.rewrite-in-Binary.new.bank c.rewrite-in-Binary.new.count.terms c.rewrite-in-Binary.new.known c.in-ok-a-2.a c.in-ok-a-2.ensures in
@@ -156,7 +156,7 @@ returns-in-err-a-3 t c =
     let a_in : a < n = below a p n fit.0 c.requires.inside in
     let b_in : b < n = below b p n fit.1 c.requires.inside in
     let d_in : d < n = below d p n fit.2 c.requires.inside in
-    let is = stopped_none rs n c.requires.bank p c.requires.inside ch c.requires.suits (sym c.in-default-stop.ensures) ∙ ap (term_of (arg rs ch)) c.in-Ternary.is in
+    let is = stopped_none rs n c.requires.bank p c.requires.inside ch c.requires.suits (sym c.in_default-stop.ensures) ∙ ap (term_of (arg rs ch)) c.in-Ternary.is in
     let has = ternary_has rs ch p f a b d is in
     let w₀ = walked_none rs n ch c.requires.suits c.requires.bank c.args.known.now c.requires.known in
     broken_off rs n ch p (a ∷ []) (b ∷ d ∷ []) has c.rewrite-in-Ternary.new.bank c.rewrite-in-Ternary.new.count.terms c.in-err-a-3.field-0.0
@@ -177,7 +177,7 @@ returns-in-err-b-2 t c =
     let a_in : a < n = below a p n fit.0 c.requires.inside in
     let b_in : b < n = below b p n fit.1 c.requires.inside in
     let d_in : d < n = below d p n fit.2 c.requires.inside in
-    let is = stopped_none rs n c.requires.bank p c.requires.inside ch c.requires.suits (sym c.in-default-stop.ensures) ∙ ap (term_of (arg rs ch)) c.in-Ternary.is in
+    let is = stopped_none rs n c.requires.bank p c.requires.inside ch c.requires.suits (sym c.in_default-stop.ensures) ∙ ap (term_of (arg rs ch)) c.in-Ternary.is in
     let has = ternary_has rs ch p f a b d is in
     let w₀ = walked_none rs n ch c.requires.suits c.requires.bank c.args.known.now c.requires.known in
     let w₁ = walked_more rs n ch c.requires.suits [] rs n c.args.known.now w₀ a a_in c.rewrite-in-Ternary.new.bank c.rewrite-in-Ternary.new.count.terms c.rewrite-in-Ternary.new.known c.in-ok-a-3.a c.in-ok-a-3.ensures in
@@ -200,7 +200,7 @@ returns-in-err-c t c =
     let a_in : a < n = below a p n fit.0 c.requires.inside in
     let b_in : b < n = below b p n fit.1 c.requires.inside in
     let d_in : d < n = below d p n fit.2 c.requires.inside in
-    let is = stopped_none rs n c.requires.bank p c.requires.inside ch c.requires.suits (sym c.in-default-stop.ensures) ∙ ap (term_of (arg rs ch)) c.in-Ternary.is in
+    let is = stopped_none rs n c.requires.bank p c.requires.inside ch c.requires.suits (sym c.in_default-stop.ensures) ∙ ap (term_of (arg rs ch)) c.in-Ternary.is in
     let has = ternary_has rs ch p f a b d is in
     let w₀ = walked_none rs n ch c.requires.suits c.requires.bank c.args.known.now c.requires.known in
     let w₁ = walked_more rs n ch c.requires.suits [] rs n c.args.known.now w₀ a a_in c.rewrite-in-Ternary.new.bank c.rewrite-in-Ternary.new.count.terms c.rewrite-in-Ternary.new.known c.in-ok-a-3.a c.in-ok-a-3.ensures in
@@ -225,7 +225,7 @@ returns-in-ok-c t c =
     let a_in : a < n = below a p n fit.0 c.requires.inside in
     let b_in : b < n = below b p n fit.1 c.requires.inside in
     let d_in : d < n = below d p n fit.2 c.requires.inside in
-    let is = stopped_none rs n c.requires.bank p c.requires.inside ch c.requires.suits (sym c.in-default-stop.ensures) ∙ ap (term_of (arg rs ch)) c.in-Ternary.is in
+    let is = stopped_none rs n c.requires.bank p c.requires.inside ch c.requires.suits (sym c.in_default-stop.ensures) ∙ ap (term_of (arg rs ch)) c.in-Ternary.is in
     let has = ternary_has rs ch p f a b d is in
     let w₀ = walked_none rs n ch c.requires.suits c.requires.bank c.args.known.now c.requires.known in
     let w₁ = walked_more rs n ch c.requires.suits [] rs n c.args.known.now w₀ a a_in c.rewrite-in-Ternary.new.bank c.rewrite-in-Ternary.new.count.terms c.rewrite-in-Ternary.new.known c.in-ok-a-3.a c.in-ok-a-3.ensures in
@@ -242,7 +242,7 @@ returns-in-Name t c =
     let n = c.args.count.now.terms in
     let ch = c.args.change.now in
     let p = c.args.place in
-    let is = stopped_none rs n c.requires.bank p c.requires.inside ch c.requires.suits (sym c.in-default-stop.ensures) in
+    let is = stopped_none rs n c.requires.bank p c.requires.inside ch c.requires.suits (sym c.in_default-stop.ensures) in
     let at : term_of (term_at rs) (node_at rs p) ≡ term_of (arg rs ch) (node_at rs p) = leaf-Name (term_at rs) (arg rs ch) (node_at rs p) _ c.in-Name.is in
     settled rs n ch c.requires.suits [] p c.requires.inside (λ all h. tt) rs n c.args.known.now (walked_none rs n ch c.requires.suits c.requires.bank c.args.known.now c.requires.known) (node_at rs p) (at ∙ sym is) c.settle-in-Name.new.bank c.settle-in-Name.new.count.terms c.settle-in-Name.new.known c.settle-in-Name.result c.settle-in-Name.ensures
 
@@ -252,6 +252,6 @@ returns-in-Constant t c =
     let n = c.args.count.now.terms in
     let ch = c.args.change.now in
     let p = c.args.place in
-    let is = stopped_none rs n c.requires.bank p c.requires.inside ch c.requires.suits (sym c.in-default-stop.ensures) in
+    let is = stopped_none rs n c.requires.bank p c.requires.inside ch c.requires.suits (sym c.in_default-stop.ensures) in
     let at : term_of (term_at rs) (node_at rs p) ≡ term_of (arg rs ch) (node_at rs p) = leaf-Constant (term_at rs) (arg rs ch) (node_at rs p) _ c.in-Constant.is in
     settled rs n ch c.requires.suits [] p c.requires.inside (λ all h. tt) rs n c.args.known.now (walked_none rs n ch c.requires.suits c.requires.bank c.args.known.now c.requires.known) (node_at rs p) (at ∙ sym is) c.settle-in-Constant.new.bank c.settle-in-Constant.new.count.terms c.settle-in-Constant.new.known c.settle-in-Constant.result c.settle-in-Constant.ensures

@@ -10,7 +10,7 @@ returns c =
     let rs = c.args.bank.now in
     let row = c.args.row in
     let after = c.trim-used.ensures in
-    let is = c.readings-of-readings.ensures in
+    let is = c.readings_of-readings.ensures in
     record {
       trimmed = ap (λ cs. record { bits = take (length s.bits) row.bits; vector = map (term_at rs) (take (length s.readings) row.vector); conditions = cs })
           (after.kept ∙ ap (λ m. kept_conditions c.args.height (map (term_at rs) (take m row.vector)) (map (literal_of rs) (take row.used row.conditions))) is);
