@@ -1,7 +1,7 @@
 -- When an older row takes a form: a renaming of its names. Assumes nothing.
-use Rattle.std.specs.Prelude.{◌≡◌, ℕ, ◌<◌, List, map}
+use Rattle.std.specs.Prelude.{◌≡◌, ℕ, ◌<◌, map}
 use Rattle.std.specs.List.{AllByRecursion as All}
-use Rattle.terms.specs.Terms.{Term, renamed, Literal, Entails}
+use Rattle.terms.specs.Terms.{renamed, Literal, Entails}
 use Rattle.forms.specs.Rows.{Row}
 
 abbrev pub renamed_in : (ℕ → ℕ) → Literal → Literal
