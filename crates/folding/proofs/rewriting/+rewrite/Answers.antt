@@ -1,4 +1,4 @@
-use Rattle.std.proofs.Common.{◌≡◌, ℕ, ◌<◌, ◌≤◌, List, [], ◌∷◌, sym, refl, ap, ◌∙◌, subst, arith}
+use Rattle.std.proofs.Common.{◌≡◌, ℕ, ◌<◌, ◌≤◌, List, [], ◌∷◌, sym, ap, ◌∙◌, subst, arith}
 use Rattle.terms.specs.declared.TermRecord.{TermRecord}
 use Rattle.terms.specs.Terms.{Term, unary, binary, ternary}
 use Rattle.terms.specs.declared.Node.{Node}
