@@ -1,4 +1,4 @@
-use Rattle.std.proofs.Common.{◌<◌, true, [], length, refl, arith}
+use Rattle.std.proofs.Common.{◌<◌, [], length, refl, arith}
 use Rattle.terms.specs.Bank.{node_at}
 use Rattle.closure.proofs.Chaining.{chains_more}
 use Rattle.banks.proofs.Entering.{listed_more, lacks_listed}

@@ -7,20 +7,20 @@ use Rattle.folding.proofs.cutting.cut.Goals as goal
 
 pub loop-place-smaller : goal.loop-place-smaller
 loop-place-smaller c =
-    let first = subst (λ k. first_higher c.args.bound (map (term_at c.loop-place.bank) (take k c.loop-place.made.vector)) ≡ Some (term_at c.loop-place.bank c.in-Some.place)) c.readings-of-readings.ensures c.in-Some.ensures.1 in
-    cut_smaller (sheet_of c.args.sheet.now) c.args.bank.now c.args.count.now.terms c.args.row c.args.bound c.loop-place.bank c.loop-place.count.terms c.loop-place.made c.loop-place.invariant (term_at c.loop-place.bank c.in-Some.place) first c.cut-once.new.bank c.cut-once.new.count.terms c.in-Ok.next c.in-Ok.ensures
+    let first = subst (λ k. first_higher c.args.bound (map (term_at c.loop-place.bank) (take k c.loop-place.made.vector)) ≡ Some (term_at c.loop-place.bank c.in-Some.place)) c.readings_of-readings.ensures c.in-Some.ensures.1 in
+    cut_smaller (sheet_of c.args.sheet.now) c.args.bank.now c.args.count.now.terms c.args.row c.args.bound c.loop-place.bank c.loop-place.count.terms c.loop-place.made c.loop-place.invariant (term_at c.loop-place.bank c.in-Some.place) first c.cut_once.new.bank c.cut_once.new.count.terms c.in-Ok.next c.in-Ok.ensures
 
 pub loop-place-preserved : goal.loop-place-preserved
 loop-place-preserved c =
-    let first = subst (λ k. first_higher c.args.bound (map (term_at c.loop-place.bank) (take k c.loop-place.made.vector)) ≡ Some (term_at c.loop-place.bank c.in-Some.place)) c.readings-of-readings.ensures c.in-Some.ensures.1 in
-    midway_more (sheet_of c.args.sheet.now) c.args.bank.now c.args.count.now.terms c.args.row c.args.bound c.loop-place.bank c.loop-place.count.terms c.loop-place.made c.loop-place.invariant (term_at c.loop-place.bank c.in-Some.place) first c.cut-once.new.bank c.cut-once.new.count.terms c.in-Ok.next c.in-Ok.ensures
+    let first = subst (λ k. first_higher c.args.bound (map (term_at c.loop-place.bank) (take k c.loop-place.made.vector)) ≡ Some (term_at c.loop-place.bank c.in-Some.place)) c.readings_of-readings.ensures c.in-Some.ensures.1 in
+    midway_more (sheet_of c.args.sheet.now) c.args.bank.now c.args.count.now.terms c.args.row c.args.bound c.loop-place.bank c.loop-place.count.terms c.loop-place.made c.loop-place.invariant (term_at c.loop-place.bank c.in-Some.place) first c.cut_once.new.bank c.cut_once.new.count.terms c.in-Ok.next c.in-Ok.ensures
 
 pub returns-in-Err : goal.returns-in-Err
 returns-in-Err c =
-    let first = subst (λ k. first_higher c.args.bound (map (term_at c.loop-place.bank) (take k c.loop-place.made.vector)) ≡ Some (term_at c.loop-place.bank c.in-Some.place)) c.readings-of-readings.ensures c.in-Some.ensures.1 in
-    midway_refused (sheet_of c.args.sheet.now) c.args.bank.now c.args.count.now.terms c.args.row c.args.bound c.loop-place.bank c.loop-place.count.terms c.loop-place.made c.loop-place.invariant (term_at c.loop-place.bank c.in-Some.place) first c.cut-once.new.bank c.cut-once.new.count.terms c.in-Err.fault c.in-Err.ensures
+    let first = subst (λ k. first_higher c.args.bound (map (term_at c.loop-place.bank) (take k c.loop-place.made.vector)) ≡ Some (term_at c.loop-place.bank c.in-Some.place)) c.readings_of-readings.ensures c.in-Some.ensures.1 in
+    midway_refused (sheet_of c.args.sheet.now) c.args.bank.now c.args.count.now.terms c.args.row c.args.bound c.loop-place.bank c.loop-place.count.terms c.loop-place.made c.loop-place.invariant (term_at c.loop-place.bank c.in-Some.place) first c.cut_once.new.bank c.cut_once.new.count.terms c.in-Err.fault c.in-Err.ensures
 
 pub returns : goal.returns
 returns c =
-    let none = subst (λ k. first_higher c.args.bound (map (term_at c.loop-place.bank) (take k c.loop-place.made.vector)) ≡ None) c.readings-of-readings.ensures c.in-default.ensures in
+    let none = subst (λ k. first_higher c.args.bound (map (term_at c.loop-place.bank) (take k c.loop-place.made.vector)) ≡ None) c.readings_of-readings.ensures c.in_default.ensures in
     cuts_end (sheet_of c.args.sheet.now) c.args.bank.now c.args.count.now.terms c.args.row c.args.bound c.loop-place.bank c.loop-place.count.terms c.loop-place.made c.loop-place.invariant none

@@ -7,5 +7,5 @@ returns-in-Ok c =
     let s = sheet_of c.args.sheet.now in
     let rs = c.args.bank.now in
     let n = c.args.count.now.terms in
-    let made = form_made s rs n c.args.row.now c.args.height c.cut.new.bank c.cut.new.count.terms c.in-Ok.low c.trim-row.result (c.is-sound.ensures.0 c.if-not-is-sound.false) c.in-Ok.ensures c.trim-row.ensures.trimmed c.trim-row.ensures.inside in
-    record { built = made; covers = form_covers_all s rs n c.args.row.now c.args.height c.cut.new.bank c.cut.new.count.terms c.trim-row.result made }
+    let made = form_made s rs n c.args.row.now c.args.height c.cut.new.bank c.cut.new.count.terms c.in-Ok.low c.trim_row.result (c.is_sound.ensures.0 c.if-not-is_sound.false) c.in-Ok.ensures c.trim_row.ensures.trimmed c.trim_row.ensures.inside in
+    record { built = made; covers = form_covers_all s rs n c.args.row.now c.args.height c.cut.new.bank c.cut.new.count.terms c.trim_row.result made }

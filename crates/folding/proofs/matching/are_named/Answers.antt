@@ -7,17 +7,17 @@ use Rattle.forms.specs.Form.{is_named}
 use Rattle.folding.proofs.Entailed.{all_taken_more, all_taken_at}
 use Rattle.folding.proofs.matching.are_named.Goals as goal
 
-pub returns-then-not-is-named : goal.returns-then-not-is-named
-returns-then-not-is-named c vector h =
+pub returns-then-not-is_named : goal.returns-then-not-is_named
+returns-then-not-is_named c vector h =
     let rs = c.args.bank.now in (
       λ e. absurd (true≢false (sym e)),
-      λ all. absurd (true≢false (sym (all_taken_at (λ d. is_named vector d ≡ true) (literal_of rs) c.args.conditions.now no_condition c.args.used c.loop-k.k c.loop-k-test.true c.requires.stored all) ∙ (sym (c.is-named.ensures vector h) ∙ c.if-not-is-named.true))),
+      λ all. absurd (true≢false (sym (all_taken_at (λ d. is_named vector d ≡ true) (literal_of rs) c.args.conditions.now no_condition c.args.used c.loop-k.k c.loop-k-test.true c.requires.stored all) ∙ (sym (c.is_named.ensures vector h) ∙ c.if-not-is_named.true))),
     )
 
 pub loop-k-preserved : goal.loop-k-preserved
 loop-k-preserved c vector h =
     let rs = c.args.bank.now in
-    all_taken_more (λ d. is_named vector d ≡ true) (literal_of rs) c.args.conditions.now no_condition c.loop-k.k (omega (arith, c.loop-k-test.true, c.requires.stored)) (c.loop-k.invariant vector h) (sym (c.is-named.ensures vector h) ∙ c.if-not-is-named.false)
+    all_taken_more (λ d. is_named vector d ≡ true) (literal_of rs) c.args.conditions.now no_condition c.loop-k.k (omega (arith, c.loop-k-test.true, c.requires.stored)) (c.loop-k.invariant vector h) (sym (c.is_named.ensures vector h) ∙ c.if-not-is_named.false)
 
 pub returns : goal.returns
 returns c vector h =

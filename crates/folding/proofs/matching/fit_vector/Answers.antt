@@ -4,7 +4,7 @@ use Rattle.std.proofs.lemmas.Bool.{true≢false}
 use Rattle.sheet.specs.View.{sheet_of}
 use Rattle.folding.proofs.Forcing.{vectors_same, older_below, form_below, bits_apart, fit_found}
 use Rattle.folding.proofs.matching.fit_vector.Goals as goal
-use Rattle.std.proofs.lemmas.Bool.Decides.{Decides-eqb}
+use Rattle.std.specs.Cmp.{booleans_Decides}
 
 different : (xs ys : List Bool) (x r : Bool) → Decides x (xs ≡ ys) → r ≡ not x → r ≡ true → xs ≡ ys → ⊥
 different xs ys x r decides is yes' same = true≢false (sym yes' ∙ (is ∙ ap not (decides.1 same)))
@@ -17,20 +17,19 @@ pub returns-then-ne : goal.returns-then-ne
 returns-then-ne c =
     let older = c.args.older.now in
     let form = c.args.form.now in
-    let bits = c.bits-of-bits.result in
-    let h = c.ne.ensures in
-    bits_apart (sheet_of c.args.sheet.now) c.args.bank.now older form bits c.bits-of-bits.ensures
-    (different (take bits older.bits) (take bits form.bits) h.0 c.ne.result (slice_eq-Decides Decides-eqb (take bits older.bits) (take bits form.bits) h.0 h.1) h.2 c.if-ne.true)
+    let bits = c.bits_of-bits.result in
+    bits_apart (sheet_of c.args.sheet.now) c.args.bank.now older form bits c.bits_of-bits.ensures
+    (different (take bits older.bits) (take bits form.bits) _ c.ne.result (slice_eq-Decides booleans_Decides (take bits older.bits) (take bits form.bits) _ refl) c.ne.ensures c.if-ne.true)
 
-pub match-terms-requires : goal.match-terms-requires
-match-terms-requires c =
+pub match_terms-requires : goal.match_terms-requires
+match_terms-requires c =
     let s = sheet_of c.args.sheet.now in
     let rs = c.args.bank.now in
     let n = c.args.terms in
     let older = c.args.older.now in
     let form = c.args.form.now in
-    let readings = c.readings-of-readings.result in
-    let r = c.readings-of-readings.ensures in
+    let readings = c.readings_of-readings.result in
+    let r = c.readings_of-readings.ensures in
     record {
       bank = c.requires.older.bank;
       same = vectors_same s rs n readings older form r c.requires.older c.requires.form;
@@ -42,8 +41,7 @@ pub returns : goal.returns
 returns c =
     let older = c.args.older.now in
     let form = c.args.form.now in
-    let bits = c.bits-of-bits.result in
-    let h = c.ne.ensures in
-    fit_found (sheet_of c.args.sheet.now) c.args.bank.now c.args.terms c.readings-of-readings.result older form c.readings-of-readings.ensures c.requires.older c.requires.form bits c.bits-of-bits.ensures
-    (alike (take bits older.bits) (take bits form.bits) h.0 c.ne.result (slice_eq-Decides Decides-eqb (take bits older.bits) (take bits form.bits) h.0 h.1) h.2 c.if-ne.false)
-    c.match-terms.result c.match-terms.ensures
+    let bits = c.bits_of-bits.result in
+    fit_found (sheet_of c.args.sheet.now) c.args.bank.now c.args.terms c.readings_of-readings.result older form c.readings_of-readings.ensures c.requires.older c.requires.form bits c.bits_of-bits.ensures
+    (alike (take bits older.bits) (take bits form.bits) _ c.ne.result (slice_eq-Decides booleans_Decides (take bits older.bits) (take bits form.bits) _ refl) c.ne.ensures c.if-ne.false)
+    c.match_terms.result c.match_terms.ensures

@@ -7,16 +7,16 @@ use Rattle.folding.specs.Matched.{sends}
 use Rattle.folding.proofs.Taking.{room_none, takes_none, room_found, takes_found, takes_not}
 use Rattle.folding.proofs.matching.takes.Goals as goal
 
-pub returns-in-default : goal.returns-in-default
-returns-in-default c =
+pub returns-in_default : goal.returns-in_default
+returns-in_default c =
     let rs = c.args.bank.now in
     let n = c.args.count.now.terms in
     let s = sheet_of c.args.sheet.now in
     let older = row_in s rs c.args.older.now in
     let form = row_in s rs c.args.form.now in
-    let none = c.in-default.ensures in
+    let none = c.in_default.ensures in
     record {
-      answer = (c.are-comparable.ensures.0 c.if-not-are-comparable.false, room_none rs n older form none, takes_none rs n older form none);
+      answer = (c.are_comparable.ensures.0 c.if-not-are_comparable.false, room_none rs n older form none, takes_none rs n older form none);
       covers = tt;
       count = refl;
       stays = λ k lt. (refl, refl);
@@ -29,7 +29,7 @@ returns-then-entailed c =
     let s = sheet_of c.args.sheet.now in
     let older = row_in s rs c.args.older.now in
     let form = row_in s rs c.args.form.now in
-    let sound = c.are-comparable.ensures.0 c.if-not-are-comparable.false in
+    let sound = c.are_comparable.ensures.0 c.if-not-are_comparable.false in
     let weighed = c.in-Ok.ensures in
     let fits = c.in-Some.ensures in
     let found = takes_found rs n older form sound.closed c.in-Some.renaming fits (weighed.answer.1.0 c.if-entailed.true) in
@@ -47,7 +47,7 @@ returns-else-entailed c =
     let s = sheet_of c.args.sheet.now in
     let older = row_in s rs c.args.older.now in
     let form = row_in s rs c.args.form.now in
-    let sound = c.are-comparable.ensures.0 c.if-not-are-comparable.false in
+    let sound = c.are_comparable.ensures.0 c.if-not-are_comparable.false in
     let weighed = c.in-Ok.ensures in
     let fits = c.in-Some.ensures in
     record {

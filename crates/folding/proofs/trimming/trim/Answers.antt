@@ -2,14 +2,14 @@ use Rattle.std.proofs.Common.{◌≡◌, map, take, sym, ap, ◌∙◌, arith}
 use Rattle.terms.specs.Bank.{term_at, literal_of}
 use Rattle.folding.specs.Dropping.{kept_conditions}
 use Rattle.folding.proofs.Dropping.{trimming_none, trimming_keeps, trimming_repeats, trimming_fails, trimming_full, next_left, next_right}
-use Rattle.folding.proofs.trimming.trim.Goals.{then-kept-lt-MOST-CONDITIONS+then-is-low-and-named+then-not-is-repeated, else-kept-lt-MOST-CONDITIONS, else-kept-lt-MOST-CONDITIONS-via-then-kept-lt-MOST-CONDITIONS+then-is-low-and-named+else-not-is-repeated, else-kept-lt-MOST-CONDITIONS-via-then-kept-lt-MOST-CONDITIONS+else-is-low-and-named, else-kept-lt-MOST-CONDITIONS-via-else-kept-lt-MOST-CONDITIONS}
+use Rattle.folding.proofs.trimming.trim.Goals.{then-kept-lt-MOST_CONDITIONS+then-is_low_and_named+then-not-is_repeated, else-kept-lt-MOST_CONDITIONS, else-kept-lt-MOST_CONDITIONS-via-then-kept-lt-MOST_CONDITIONS+then-is_low_and_named+else-not-is_repeated, else-kept-lt-MOST_CONDITIONS-via-then-kept-lt-MOST_CONDITIONS+else-is_low_and_named, else-kept-lt-MOST_CONDITIONS-via-else-kept-lt-MOST_CONDITIONS}
 use Rattle.folding.proofs.trimming.trim.Goals as goal
 
 pub loop-i-init : goal.loop-i-init
 loop-i-init c = trimming_none c.args.bank.now c.args.terms c.args.height (map (term_at c.args.bank.now) (take c.args.readings c.args.places.now)) c.args.conditions.now
 
-pub is-low-and-named-requires : goal.is-low-and-named-requires
-is-low-and-named-requires c κ =
+pub is_low_and_named-requires : goal.is_low_and_named-requires
+is_low_and_named-requires c =
     let rs = c.args.bank.now in
     let vector = map (term_at rs) (take c.args.readings c.args.places.now) in
     let l = c.loop-i in
@@ -19,8 +19,8 @@ is-low-and-named-requires c κ =
       right = next_right rs c.args.terms c.requires.bank c.args.height vector c.args.conditions.now l.conditions l.kept l.i c.args.used l.invariant c.loop-i-test.true c.requires.room c.requires.between;
     }
 
-pub is-repeated-requires : goal.is-repeated-requires
-is-repeated-requires c κ = omega (arith, c.loop-i.invariant.behind, c.loop-i.invariant.long, c.requires.room, c.loop-i-test.true)
+pub is_repeated-requires : goal.is_repeated-requires
+is_repeated-requires c = omega (arith, c.loop-i.invariant.behind, c.loop-i.invariant.long, c.requires.room, c.loop-i-test.true)
 
 pub bounds-conditions-kept : goal.bounds-conditions-kept
 bounds-conditions-kept c = omega (arith, c.loop-i.invariant.behind, c.loop-i.invariant.long, c.requires.room, c.loop-i-test.true)
@@ -30,25 +30,25 @@ loop-i-preserved c =
     let rs = c.args.bank.now in
     let vector = map (term_at rs) (take c.args.readings c.args.places.now) in
     let l = c.loop-i in
-    let names = c.names-in-names.ensures in
-    elim c.if-kept-lt-MOST-CONDITIONS.branch [
-      | then-kept-lt-MOST-CONDITIONS+then-is-low-and-named+then-not-is-repeated w ↦
+    let names = c.names_in-names.ensures in
+    elim c.if-kept-lt-MOST_CONDITIONS.branch [
+      | then-kept-lt-MOST_CONDITIONS+then-is_low_and_named+then-not-is_repeated w ↦
           rw (w.conditions-is, w.kept-is)
-          (trimming_keeps rs c.args.terms c.requires.bank c.args.height vector c.args.conditions.now l.conditions l.kept l.i c.args.used l.invariant c.loop-i-test.true c.requires.room c.requires.between w.if-kept-lt-MOST-CONDITIONS.true (sym (w.if-is-low-and-named.ensures vector names)) (sym w.if-not-is-repeated.ensures))
-      | else-kept-lt-MOST-CONDITIONS w ↦
+          (trimming_keeps rs c.args.terms c.requires.bank c.args.height vector c.args.conditions.now l.conditions l.kept l.i c.args.used l.invariant c.loop-i-test.true c.requires.room c.requires.between w.if-kept-lt-MOST_CONDITIONS.true (sym (w.if-is_low_and_named.ensures vector names)) (sym w.if-not-is_repeated.ensures))
+      | else-kept-lt-MOST_CONDITIONS w ↦
           rw (w.conditions-is, w.kept-is)
-          (elim w.else-kept-lt-MOST-CONDITIONS.branch [
-            | else-kept-lt-MOST-CONDITIONS-via-then-kept-lt-MOST-CONDITIONS+then-is-low-and-named+else-not-is-repeated w' ↦
-                trimming_repeats rs c.args.terms c.requires.bank c.args.height vector c.args.conditions.now l.conditions l.kept l.i c.args.used l.invariant c.loop-i-test.true c.requires.room c.requires.between (sym w'.if-not-is-repeated.ensures)
-            | else-kept-lt-MOST-CONDITIONS-via-then-kept-lt-MOST-CONDITIONS+else-is-low-and-named w' ↦
-                trimming_fails rs c.args.terms c.requires.bank c.args.height vector c.args.conditions.now l.conditions l.kept l.i c.args.used l.invariant c.loop-i-test.true c.requires.room c.requires.between (sym (w'.if-is-low-and-named.ensures vector names))
-            | else-kept-lt-MOST-CONDITIONS-via-else-kept-lt-MOST-CONDITIONS w' ↦
-                trimming_full rs c.args.terms c.requires.bank c.args.height vector c.args.conditions.now l.conditions l.kept l.i c.args.used l.invariant c.loop-i-test.true c.requires.room c.requires.between w'.if-kept-lt-MOST-CONDITIONS.false
+          (elim w.else-kept-lt-MOST_CONDITIONS.branch [
+            | else-kept-lt-MOST_CONDITIONS-via-then-kept-lt-MOST_CONDITIONS+then-is_low_and_named+else-not-is_repeated w' ↦
+                trimming_repeats rs c.args.terms c.requires.bank c.args.height vector c.args.conditions.now l.conditions l.kept l.i c.args.used l.invariant c.loop-i-test.true c.requires.room c.requires.between (sym w'.if-not-is_repeated.ensures)
+            | else-kept-lt-MOST_CONDITIONS-via-then-kept-lt-MOST_CONDITIONS+else-is_low_and_named w' ↦
+                trimming_fails rs c.args.terms c.requires.bank c.args.height vector c.args.conditions.now l.conditions l.kept l.i c.args.used l.invariant c.loop-i-test.true c.requires.room c.requires.between (sym (w'.if-is_low_and_named.ensures vector names))
+            | else-kept-lt-MOST_CONDITIONS-via-else-kept-lt-MOST_CONDITIONS w' ↦
+                trimming_full rs c.args.terms c.requires.bank c.args.height vector c.args.conditions.now l.conditions l.kept l.i c.args.used l.invariant c.loop-i-test.true c.requires.room c.requires.between w'.if-kept-lt-MOST_CONDITIONS.false
           ])
     ]
 
-pub overflow-cast-result : goal.overflow-cast-result
-overflow-cast-result c = omega (arith, c.loop-i.invariant.few)
+pub overflow_cast-result : goal.overflow_cast-result
+overflow_cast-result c = omega (arith, c.loop-i.invariant.few)
 
 pub returns : goal.returns
 returns c =

@@ -1,4 +1,4 @@
-use Rattle.std.proofs.Common.{◌≡◌, map, length, take, sym, ap, ◌∙◌, subst, arith}
+use Rattle.std.proofs.Common.{map, length, take, ap, ◌∙◌, arith}
 use Rattle.sheet.specs.View.{sheet_of}
 use Rattle.terms.specs.Bank.{term_at, literal_of}
 use Rattle.folding.specs.Dropping.{kept_conditions}
@@ -10,7 +10,7 @@ returns c =
     let rs = c.args.bank.now in
     let row = c.args.row in
     let after = c.trim-used.ensures in
-    let is = c.readings-of-readings.ensures in
+    let is = c.readings_of-readings.ensures in
     record {
       trimmed = ap (λ cs. record { bits = take (length s.bits) row.bits; vector = map (term_at rs) (take (length s.readings) row.vector); conditions = cs })
           (after.kept ∙ ap (λ m. kept_conditions c.args.height (map (term_at rs) (take m row.vector)) (map (literal_of rs) (take row.used row.conditions))) is);

@@ -6,7 +6,7 @@ use Rattle.rows.proofs.name_sets.names_of_terms.Goals as goal
 
 pub loop-k-preserved : goal.loop-k-preserved
 loop-k-preserved c n bank long inside =
-    terms_step c.args.bank.now n bank c.args.places.now c.loop-k.k c.loop-k.names c.at-or.result c.names-at-names.result (omega (arith, long, c.loop-k-test.true)) (inside c.loop-k.k c.loop-k-test.true) (c.loop-k.invariant n bank long inside) c.at-or.ensures c.names-at-names.ensures
+    terms_step c.args.bank.now n bank c.args.places.now c.loop-k.k c.loop-k.names c.at_or.result c.names_at-names.result (omega (arith, long, c.loop-k-test.true)) (inside c.loop-k.k c.loop-k-test.true) (c.loop-k.invariant n bank long inside) c.at_or.ensures c.names_at-names.ensures
 
 pub returns : goal.returns
 returns c n bank long inside =
