@@ -21,8 +21,8 @@ slice-bounds-names-end c =
     let few : c.args.sheet.now.parts.inputs ≤ 4 = few_inputs (sheet_of c.args.sheet.now) c.args.sheet.now.lawful in
     search rules
 
-pub build-conditions-requires : goal.build-conditions-requires
-build-conditions-requires c =
+pub build_conditions-requires : goal.build_conditions-requires
+build_conditions-requires c =
     let prepared = c.in-ok-names.ensures in
     record { sound = prepared.0.sound; names = small_part (c.args.sheet.now.parts.inputs - 0) c.in-ok-names.names prepared.2 }
 
@@ -35,8 +35,8 @@ returns-in-Ok c =
     let m : s.inputs - 0 ≡ s.inputs = omega arith in
     let names = take (s.inputs - 0) c.in-ok-names.names in
     let is : input_names s (row_in s rs c.args.row.now) ≡ Some names = prepared.1 ∙ ap (λ k. Some (take k c.in-ok-names.names)) (sym m) in
-    let done = conditions_made s rs n c.args.row.now c.args.branch names is prepared.0 c.build-conditions.new.bank c.build-conditions.new.count.terms c.in-Ok.conditions c.in-Ok.ensures in
-    record { made = done; refutes = conditions_refuting s c.args.sheet.now.lawful rs n c.args.row.now c.args.branch c.build-conditions.new.bank c.build-conditions.new.count.terms (Ok c.in-Ok.conditions) done; counted = λ seen holding. conditions_counted s rs n c.args.row.now c.args.branch seen holding c.build-conditions.new.bank c.build-conditions.new.count.terms (Ok c.in-Ok.conditions) done }
+    let done = conditions_made s rs n c.args.row.now c.args.branch names is prepared.0 c.build_conditions.new.bank c.build_conditions.new.count.terms c.in-Ok.conditions c.in-Ok.ensures in
+    record { made = done; refutes = conditions_refuting s c.args.sheet.now.lawful rs n c.args.row.now c.args.branch c.build_conditions.new.bank c.build_conditions.new.count.terms (Ok c.in-Ok.conditions) done; counted = λ seen holding. conditions_counted s rs n c.args.row.now c.args.branch seen holding c.build_conditions.new.bank c.build_conditions.new.count.terms (Ok c.in-Ok.conditions) done }
 
 pub returns-in-Err : goal.returns-in-Err
 returns-in-Err c =
@@ -48,5 +48,5 @@ returns-in-Err c =
     let names = take (s.inputs - 0) c.in-ok-names.names in
     let is : input_names s (row_in s rs c.args.row.now) ≡ Some names = prepared.1 ∙ ap (λ k. Some (take k c.in-ok-names.names)) (sym m) in
     let x = c.in-Err.ensures in
-    let done = terms_refused s rs n c.args.row.now c.args.branch names is prepared.0 c.build-conditions.new.bank c.build-conditions.new.count.terms (λ next. sides_of next.conditions) c.in-Err.fault x.0 x.1 x.2 in
-    record { made = done; refutes = conditions_refuting s c.args.sheet.now.lawful rs n c.args.row.now c.args.branch c.build-conditions.new.bank n (Err c.in-Err.fault) done; counted = λ seen holding. conditions_counted s rs n c.args.row.now c.args.branch seen holding c.build-conditions.new.bank n (Err c.in-Err.fault) done }
+    let done = terms_refused s rs n c.args.row.now c.args.branch names is prepared.0 c.build_conditions.new.bank c.build_conditions.new.count.terms (λ next. sides_of next.conditions) c.in-Err.fault x.0 x.1 x.2 in
+    record { made = done; refutes = conditions_refuting s c.args.sheet.now.lawful rs n c.args.row.now c.args.branch c.build_conditions.new.bank n (Err c.in-Err.fault) done; counted = λ seen holding. conditions_counted s rs n c.args.row.now c.args.branch seen holding c.build_conditions.new.bank n (Err c.in-Err.fault) done }

@@ -22,8 +22,8 @@ returns-in-err-out c started named =
     let is : t ≡ get_or all k no_term = sym (get_or-map start_of c.args.readings.now k no_reading no_term inside) in
     let w = c.loop-k.invariant.1 started named in
     let x = c.in-err-out.ensures w.0.started (named k inside) in
-    added_break c.args.bank.now c.args.count.now.terms all c.start-place.new.bank c.start-place.new.count.terms _ c.in-err-out.field-0.0 c.from-residual.result x.0
-    (placed_break [] [] [] [] c.args.bank.now c.args.count.now.terms k c.loop-k.bank c.loop-k.count.terms [] c.start-place.new.bank c.start-place.new.count.terms [] all t inside' is w.0 x.1 x.2) c.from-residual.ensures.1
+    added_break c.args.bank.now c.args.count.now.terms all c.start_place.new.bank c.start_place.new.count.terms _ c.in-err-out.field-0.0 c.from-residual.result x.0
+    (placed_break [] [] [] [] c.args.bank.now c.args.count.now.terms k c.loop-k.bank c.loop-k.count.terms [] c.start_place.new.bank c.start_place.new.count.terms [] all t inside' is w.0 x.1 x.2) c.from-residual.ensures.1
 
 pub loop-k-preserved : goal.loop-k-preserved
 loop-k-preserved c = (
@@ -37,7 +37,7 @@ loop-k-preserved c = (
       let is : t ≡ get_or all k no_term = sym (get_or-map start_of c.args.readings.now k no_reading no_term inside) in
       let w = c.loop-k.invariant.1 started named in
       let x = c.in-ok-out.ensures w.0.started (named k inside) in
-      placed_more [] [] [] [] c.args.bank.now c.args.count.now.terms k c.loop-k.bank c.loop-k.count.terms [] c.start-place.new.bank c.start-place.new.count.terms [] all t inside' is w.0 c.loop-k.out c.in-ok-out.field-0 (omega (arith, c.loop-k.invariant.0)) w.1 c.start-place.auto.bank x.0 x.1,
+      placed_more [] [] [] [] c.args.bank.now c.args.count.now.terms k c.loop-k.bank c.loop-k.count.terms [] c.start_place.new.bank c.start_place.new.count.terms [] all t inside' is w.0 c.loop-k.out c.in-ok-out.field-0 (omega (arith, c.loop-k.invariant.0)) w.1 c.start_place.auto.bank x.0 x.1,
 )
 
 pub returns : goal.returns

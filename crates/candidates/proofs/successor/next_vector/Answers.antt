@@ -28,8 +28,8 @@ returns-in-err-out c v over started =
     let is : t ≡ get_or all k no_term = sym (numbered_at f c.args.readings.now k no_term no_reading inside) in
     let w = c.loop-k.invariant.1 v over started in
     let x = c.in-err-out.ensures v w.0.over w.0.started in
-    added_break c.args.bank.now c.args.count.now.terms all c.next-place.new.bank c.next-place.new.count.terms _ c.in-err-out.field-0.0 c.from-residual.result x.0
-    (placed_break values v c.args.given.vector.now c.args.given.inputs.now c.args.bank.now c.args.count.now.terms k c.loop-k.bank c.loop-k.count.terms c.loop-k.known c.next-place.new.bank c.next-place.new.count.terms c.next-place.new.known all t inside' is w.0 x.1 x.2) c.from-residual.ensures.1
+    added_break c.args.bank.now c.args.count.now.terms all c.next_place.new.bank c.next_place.new.count.terms _ c.in-err-out.field-0.0 c.from-residual.result x.0
+    (placed_break values v c.args.given.vector.now c.args.given.inputs.now c.args.bank.now c.args.count.now.terms k c.loop-k.bank c.loop-k.count.terms c.loop-k.known c.next_place.new.bank c.next_place.new.count.terms c.next_place.new.known all t inside' is w.0 x.1 x.2) c.from-residual.ensures.1
 
 pub loop-k-preserved : goal.loop-k-preserved
 loop-k-preserved c = (
@@ -46,7 +46,7 @@ loop-k-preserved c = (
       let is : t ≡ get_or all k no_term = sym (numbered_at f c.args.readings.now k no_term no_reading inside) in
       let w = c.loop-k.invariant.1 v over started in
       let x = c.in-ok-out.ensures v w.0.over w.0.started in
-      placed_more values v c.args.given.vector.now c.args.given.inputs.now c.args.bank.now c.args.count.now.terms k c.loop-k.bank c.loop-k.count.terms c.loop-k.known c.next-place.new.bank c.next-place.new.count.terms c.next-place.new.known all t inside' is w.0 c.loop-k.out c.in-ok-out.field-0 (omega (arith, c.loop-k.invariant.0)) w.1 c.next-place.auto.bank x.0 x.1,
+      placed_more values v c.args.given.vector.now c.args.given.inputs.now c.args.bank.now c.args.count.now.terms k c.loop-k.bank c.loop-k.count.terms c.loop-k.known c.next_place.new.bank c.next_place.new.count.terms c.next_place.new.known all t inside' is w.0 c.loop-k.out c.in-ok-out.field-0 (omega (arith, c.loop-k.invariant.0)) w.1 c.next_place.auto.bank x.0 x.1,
 )
 
 pub returns : goal.returns
