@@ -9,8 +9,8 @@ pub loop-condition-init : goal.loop-condition-init
 loop-condition-init c =
     assuming_start c.args.bank.now c.args.terms c.args.conditions.now c.start.new.labels c.start.new.labels c.start.ensures.own (λ k le. refl)
 
-pub overflow-add-joins : goal.overflow-add-joins
-overflow-add-joins c = omega (arith, c.loop-condition.invariant.counted, c.requires.few)
+pub overflow_add-joins : goal.overflow_add-joins
+overflow_add-joins c = omega (arith, c.loop-condition.invariant.counted, c.requires.few)
 
 pub loop-condition-preserved : goal.loop-condition-preserved
 loop-condition-preserved c =
@@ -23,8 +23,8 @@ loop-condition-preserved c =
     subst (λ u. Assuming c.args.bank.now c.args.terms conds c.start.new.labels c.assume.new.labels u (i + 1)) (sym e)
     (assuming_more c.args.bank.now c.args.terms conds c.start.new.labels c.loop-condition.labels c.assume.new.labels j i c.loop-condition-test.true (c.requires.lefts i c.loop-condition-test.true) (c.requires.rights i c.loop-condition-test.true) c.requires.lefts c.requires.rights c.loop-condition.invariant r c.assume.ensures)
 
-pub overflow-add-result : goal.overflow-add-result
-overflow-add-result c =
+pub overflow_add-result : goal.overflow_add-result
+overflow_add-result c =
     omega (arith, c.loop-condition.invariant.counted, c.saturate.ensures.grown.counted, c.requires.few)
 
 pub returns : goal.returns

@@ -7,11 +7,11 @@ pub returns-then-goal-count : goal.returns-then-goal-count
 returns-then-goal-count c =
     (refl, refl, λ ready. let less = ready_less c.args.bank.now c.args.count.terms c.args.goal c.args.conditions.now c.args.labels.now ready in omega (arith, less.0, less.1))
 
-pub returns-then-not-is-ready : goal.returns-then-not-is-ready
-returns-then-not-is-ready c =
-    (refl, refl, λ ready. both_ways c.is-ready.result c.if-not-is-ready.true (c.is-ready.ensures.1 (ready_less c.args.bank.now c.args.count.terms c.args.goal c.args.conditions.now c.args.labels.now ready).2))
+pub returns-then-not-is_ready : goal.returns-then-not-is_ready
+returns-then-not-is_ready c =
+    (refl, refl, λ ready. both_ways c.is_ready.result c.if-not-is_ready.true (c.is_ready.ensures.1 (ready_less c.args.bank.now c.args.count.terms c.args.goal c.args.conditions.now c.args.labels.now ready).2))
 
 pub returns : goal.returns
 returns c =
-    let ready = ready_more c.args.bank.now c.args.count.terms c.args.goal c.args.conditions.now c.args.labels.now (omega arith) (omega arith) (c.is-ready.ensures.0 c.if-not-is-ready.false) in
-    (ready, concluded c.args.bank.now c.args.count.terms c.args.goal c.args.conditions.now c.args.labels.now c.is-forced.new.labels c.is-forced.result ready c.is-forced.ensures.settled c.is-forced.ensures.broken, c.is-forced.ensures.spare)
+    let ready = ready_more c.args.bank.now c.args.count.terms c.args.goal c.args.conditions.now c.args.labels.now (omega arith) (omega arith) (c.is_ready.ensures.0 c.if-not-is_ready.false) in
+    (ready, concluded c.args.bank.now c.args.count.terms c.args.goal c.args.conditions.now c.args.labels.now c.is_forced.new.labels c.is_forced.result ready c.is_forced.ensures.settled c.is_forced.ensures.broken, c.is_forced.ensures.spare)

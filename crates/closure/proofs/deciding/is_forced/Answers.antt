@@ -24,7 +24,7 @@ returns-else-labels-left c =
     let conds = c.args.conditions.now in
     record {
       settled = settled_different c.args.bank.now c.args.terms d conds l (ap opposite c.in-Equal.is) c.close.ensures.settled;
-      broken = (λ e. broken_later d conds l (c.is-broken.ensures.0 e), λ b. ⊎_elim (λ w. absurd (c.if-labels-left.false w.1)) c.is-broken.ensures.1 (broken_cases d conds l b));
+      broken = (λ e. broken_later d conds l (c.is_broken.ensures.0 e), λ b. ⊎_elim (λ w. absurd (c.if-labels-left.false w.1)) c.is_broken.ensures.1 (broken_cases d conds l b));
       spare = c.close.ensures.spare;
     }
 
@@ -34,7 +34,7 @@ returns-in-Different c =
     let d = negated c.args.goal in
     let conds = c.args.conditions.now in
     let is = ap opposite c.in-Different.is in
-    let tests = c.is-broken-in-Different.ensures in
+    let tests = c.is_broken-in-Different.ensures in
     record {
       settled = settled_equal c.args.bank.now c.args.terms d conds c.close.new.labels c.join.new.labels l c.join.result c.saturate.result is c.requires.left c.requires.right c.requires.lefts c.requires.rights c.close.ensures.settled c.join.ensures c.saturate.ensures.grown c.saturate.ensures.closed;
       broken = (λ e. broken_later d conds l (tests.0 e), λ b. ⊎_elim (λ w. absurd (never d.sign w.0 is)) tests.1 (broken_cases d conds l b));

@@ -13,10 +13,10 @@ loop-equation-init c =
     let n = c.args.terms in
     let l = c.args.labels.now in
     let grown = grown_none rs n l c.requires.rooted in
-    (grown, due_more rs c.args.seen n l l 0 (entries c.args.pending.now) (entries c.revisit-users.new.pending) c.requires.inside grown (subst (Due rs n l) (sym c.requires.empty) tt) c.revisit-users.ensures.added, c.revisit-users.ensures.roomy ∙ c.requires.short)
+    (grown, due_more rs c.args.seen n l l 0 (entries c.args.pending.now) (entries c.revisit_users.new.pending) c.requires.inside grown (subst (Due rs n l) (sym c.requires.empty) tt) c.revisit_users.ensures.added, c.revisit_users.ensures.roomy ∙ c.requires.short)
 
-pub overflow-add-joins : goal.overflow-add-joins
-overflow-add-joins c =
+pub overflow_add-joins : goal.overflow_add-joins
+overflow_add-joins c =
     omega (arith, joins_few c.args.bank.now c.args.terms c.args.labels.now c.loop-equation.labels c.loop-equation.joins c.loop-equation.invariant.0, c.requires.few)
 
 -- the equation that is settled, and the others, are due

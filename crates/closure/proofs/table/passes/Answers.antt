@@ -12,8 +12,8 @@ further : (c : goal.Else-found-eq0) → Grown c.args.bank.now c.args.terms c.arg
 further c =
     grown_more c.args.bank.now c.args.terms c.args.labels.now c.loop-terms.labels c.sweep-found.new.labels c.loop-terms.joins c.sweep-found.result c.loop-terms.invariant.0 c.sweep-found.ensures.grown
 
-pub overflow-add-joins : goal.overflow-add-joins
-overflow-add-joins c =
+pub overflow_add-joins : goal.overflow_add-joins
+overflow_add-joins c =
     omega (arith, joins_few c.args.bank.now c.args.terms c.args.labels.now c.sweep-found.new.labels (c.loop-terms.joins + c.sweep-found.result) (further c), c.requires.few)
 
 pub loop-terms-preserved : goal.loop-terms-preserved

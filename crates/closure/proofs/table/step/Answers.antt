@@ -15,6 +15,6 @@ returns-in-Some c =
       roomy = c.propagate.ensures.roomy;
     }
 
-pub overflow-add-result : goal.overflow-add-result
-overflow-add-result c =
+pub overflow_add-result : goal.overflow_add-result
+overflow_add-result c =
     omega (arith, joins_few c.args.bank.now c.args.terms c.visit.new.labels c.propagate.new.labels c.propagate.result c.propagate.ensures.grown, c.requires.few)

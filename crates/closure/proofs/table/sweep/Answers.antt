@@ -9,8 +9,8 @@ pub loop-i-init : goal.loop-i-init
 loop-i-init c =
     (grown_none c.args.bank.now c.args.terms c.args.labels.now c.requires.rooted, chains_none 1024 512, refl, refl, λ _. swept_none c.args.bank.now c.args.labels.now (replicate 1024 None) (replicate 512 None), c.requires.empty, c.requires.short)
 
-pub overflow-add-joins : goal.overflow-add-joins
-overflow-add-joins c =
+pub overflow_add-joins : goal.overflow_add-joins
+overflow_add-joins c =
     let all = grown_more c.args.bank.now c.args.terms c.args.labels.now c.loop-i.labels c.step-joins.new.labels c.loop-i.joins c.step-joins.result c.loop-i.invariant.0 c.step-joins.ensures.grown in
     omega (arith, joins_few c.args.bank.now c.args.terms c.args.labels.now c.step-joins.new.labels (c.loop-i.joins + c.step-joins.result) all, c.requires.few)
 
