@@ -13,13 +13,13 @@ use Rattle.candidates.proofs.building.build.Goals as goal
 pub answers_of-answers-requires : goal.answers_of-answers-requires
 answers_of-answers-requires c = omega (arith, c.questions_of-asked.ensures, few_questions (sheet_of c.args.sheet.now) c.args.sheet.now.lawful)
 
-pub slice-bounds-answers-end : goal.slice-bounds-answers-end
-slice-bounds-answers-end c =
+pub slice_bounds-answers-end : goal.slice_bounds-answers-end
+slice_bounds-answers-end c =
     let few : c.questions_of-asked.result ≤ 6 = omega (arith, c.questions_of-asked.ensures, few_questions (sheet_of c.args.sheet.now) c.args.sheet.now.lawful) in
     search rules
 
-pub returns-in-err-conditions : goal.returns-in-err-conditions
-returns-in-err-conditions c =
+pub returns-in_err-conditions : goal.returns-in_err-conditions
+returns-in_err-conditions c =
     let s = sheet_of c.args.sheet.now in
     let few = few_questions s c.args.sheet.now.lawful in
     let rs = c.args.bank.now in
@@ -37,12 +37,12 @@ returns-in-err-conditions c =
     let mine_are = ap (λ k. take k row.conditions) u in
     let answers_are : answers ≡ branch_answers (length s.questions) c.args.branch = ap (λ k. take k c.answers_of-answers.result) q ∙ (c.answers_of-answers.ensures ∙ ap (λ k. branch_answers k c.args.branch) c.questions_of-asked.ensures) in
     let next = candidate_with s (row_in s rs row) c.args.names.now (branch_answers (length s.questions) c.args.branch) in
-    let x = conditions_joined s rs n row c.requires.sound few c.args.names.now c.requires.names c.args.branch entries places answers terms_are places_are answers_are c.conditions_of.new.bank c.conditions_of.new.count.terms c.conditions_of.new.known mine mine_are (Err c.in-err-conditions.field-0.0) c.in-err-conditions.ensures in
-    added_break rs n (terms_in next) c.conditions_of.new.bank c.conditions_of.new.count.terms _ c.in-err-conditions.field-0.0 c.from-residual.result x.0
-    (conditions_refused s rs n row c.requires.sound few c.args.names.now c.requires.names c.args.branch entries places answers terms_are places_are answers_are c.conditions_of.new.bank c.conditions_of.new.count.terms c.conditions_of.new.known x.1, x.2) c.from-residual.ensures.1
+    let x = conditions_joined s rs n row c.requires.sound few c.args.names.now c.requires.names c.args.branch entries places answers terms_are places_are answers_are c.conditions_of.new.bank c.conditions_of.new.count.terms c.conditions_of.new.known mine mine_are (Err c.in_err-conditions.field-0.0) c.in_err-conditions.ensures in
+    added_break rs n (terms_in next) c.conditions_of.new.bank c.conditions_of.new.count.terms _ c.in_err-conditions.field-0.0 c.from_residual.result x.0
+    (conditions_refused s rs n row c.requires.sound few c.args.names.now c.requires.names c.args.branch entries places answers terms_are places_are answers_are c.conditions_of.new.bank c.conditions_of.new.count.terms c.conditions_of.new.known x.1, x.2) c.from_residual.ensures.1
 
-pub returns-in-err-vector : goal.returns-in-err-vector
-returns-in-err-vector c =
+pub returns-in_err-vector : goal.returns-in_err-vector
+returns-in_err-vector c =
     let s = sheet_of c.args.sheet.now in
     let few = few_questions s c.args.sheet.now.lawful in
     let rs = c.args.bank.now in
@@ -60,13 +60,13 @@ returns-in-err-vector c =
     let mine_are = ap (λ k. take k row.conditions) u in
     let answers_are : answers ≡ branch_answers (length s.questions) c.args.branch = ap (λ k. take k c.answers_of-answers.result) q ∙ (c.answers_of-answers.ensures ∙ ap (λ k. branch_answers k c.args.branch) c.questions_of-asked.ensures) in
     let next = candidate_with s (row_in s rs row) c.args.names.now (branch_answers (length s.questions) c.args.branch) in
-    let x = conditions_joined s rs n row c.requires.sound few c.args.names.now c.requires.names c.args.branch entries places answers terms_are places_are answers_are c.conditions_of.new.bank c.conditions_of.new.count.terms c.conditions_of.new.known mine mine_are (Ok c.in-ok-conditions.conditions) c.in-ok-conditions.ensures in
+    let x = conditions_joined s rs n row c.requires.sound few c.args.names.now c.requires.names c.args.branch entries places answers terms_are places_are answers_are c.conditions_of.new.bank c.conditions_of.new.count.terms c.conditions_of.new.known mine mine_are (Ok c.in_ok-conditions.conditions) c.in_ok-conditions.ensures in
     let o : c.bits_of.result - 0 ≡ length s.bits = omega (arith, c.bits_of.ensures) in
     let bits_are = ap (λ k. take k row.bits) o in
     let right = λ (k : ℕ). c.resolve-resolved.ensures.chosen k ∙ ap₂ (λ (bs rs' : List Bool). get_or (chosen (λ f. get_or (truths bs rs' [] s.formulas) f false) s.choices) k 0) bits_are answers_are in
-    let y = vector_placed s rs n row c.requires.sound few c.args.names.now c.requires.names c.args.branch entries places answers terms_are places_are answers_are c.conditions_of.new.bank c.conditions_of.new.count.terms c.conditions_of.new.known x.0 x.1.recalled c.conditions_of.auto.bank c.next_vector.new.bank c.next_vector.new.count.terms c.next_vector.new.known c.resolve-resolved.result.chosen right c.as_slice-readings.result.now c.as_slice-readings.ensures.value (Err c.in-err-vector.field-0.0) c.in-err-vector.ensures in
-    added_break rs n (terms_in next) c.next_vector.new.bank c.next_vector.new.count.terms _ c.in-err-vector.field-0.0 c.from-residual-in-err-vector.result y.0
-    (vector_refused s rs n row c.requires.sound few c.args.names.now c.requires.names c.args.branch entries places answers terms_are places_are answers_are c.conditions_of.new.bank c.conditions_of.new.count.terms c.conditions_of.new.known x.0 x.1.recalled c.conditions_of.auto.bank c.next_vector.new.bank c.next_vector.new.count.terms c.next_vector.new.known y.1 y.2) c.from-residual-in-err-vector.ensures.1
+    let y = vector_placed s rs n row c.requires.sound few c.args.names.now c.requires.names c.args.branch entries places answers terms_are places_are answers_are c.conditions_of.new.bank c.conditions_of.new.count.terms c.conditions_of.new.known x.0 x.1.recalled c.conditions_of.auto.bank c.next_vector.new.bank c.next_vector.new.count.terms c.next_vector.new.known c.resolve-resolved.result.chosen right c.as_slice-readings.result.now c.as_slice-readings.ensures.value (Err c.in_err-vector.field-0.0) c.in_err-vector.ensures in
+    added_break rs n (terms_in next) c.next_vector.new.bank c.next_vector.new.count.terms _ c.in_err-vector.field-0.0 c.from_residual-in_err-vector.result y.0
+    (vector_refused s rs n row c.requires.sound few c.args.names.now c.requires.names c.args.branch entries places answers terms_are places_are answers_are c.conditions_of.new.bank c.conditions_of.new.count.terms c.conditions_of.new.known x.0 x.1.recalled c.conditions_of.auto.bank c.next_vector.new.bank c.next_vector.new.count.terms c.next_vector.new.known y.1 y.2) c.from_residual-in_err-vector.ensures.1
 
 pub returns : goal.returns
 returns c =
@@ -87,13 +87,13 @@ returns c =
     let mine_are = ap (λ k. take k row.conditions) u in
     let answers_are : answers ≡ branch_answers (length s.questions) c.args.branch = ap (λ k. take k c.answers_of-answers.result) q ∙ (c.answers_of-answers.ensures ∙ ap (λ k. branch_answers k c.args.branch) c.questions_of-asked.ensures) in
     let next = candidate_with s (row_in s rs row) c.args.names.now (branch_answers (length s.questions) c.args.branch) in
-    let x = conditions_joined s rs n row c.requires.sound few c.args.names.now c.requires.names c.args.branch entries places answers terms_are places_are answers_are c.conditions_of.new.bank c.conditions_of.new.count.terms c.conditions_of.new.known mine mine_are (Ok c.in-ok-conditions.conditions) c.in-ok-conditions.ensures in
+    let x = conditions_joined s rs n row c.requires.sound few c.args.names.now c.requires.names c.args.branch entries places answers terms_are places_are answers_are c.conditions_of.new.bank c.conditions_of.new.count.terms c.conditions_of.new.known mine mine_are (Ok c.in_ok-conditions.conditions) c.in_ok-conditions.ensures in
     let o : c.bits_of.result - 0 ≡ length s.bits = omega (arith, c.bits_of.ensures) in
     let bits_are = ap (λ k. take k row.bits) o in
     let right = λ (k : ℕ). c.resolve-resolved.ensures.chosen k ∙ ap₂ (λ (bs rs' : List Bool). get_or (chosen (λ f. get_or (truths bs rs' [] s.formulas) f false) s.choices) k 0) bits_are answers_are in
-    let y = vector_placed s rs n row c.requires.sound few c.args.names.now c.requires.names c.args.branch entries places answers terms_are places_are answers_are c.conditions_of.new.bank c.conditions_of.new.count.terms c.conditions_of.new.known x.0 x.1.recalled c.conditions_of.auto.bank c.next_vector.new.bank c.next_vector.new.count.terms c.next_vector.new.known c.resolve-resolved.result.chosen right c.as_slice-readings.result.now c.as_slice-readings.ensures.value (Ok c.in-ok-vector.vector) c.in-ok-vector.ensures in
+    let y = vector_placed s rs n row c.requires.sound few c.args.names.now c.requires.names c.args.branch entries places answers terms_are places_are answers_are c.conditions_of.new.bank c.conditions_of.new.count.terms c.conditions_of.new.known x.0 x.1.recalled c.conditions_of.auto.bank c.next_vector.new.bank c.next_vector.new.count.terms c.next_vector.new.known c.resolve-resolved.result.chosen right c.as_slice-readings.result.now c.as_slice-readings.ensures.value (Ok c.in_ok-vector.vector) c.in_ok-vector.ensures in
     let true' = λ (f : ℕ). c.resolve-resolved.ensures.truths f ∙ ap₂ (λ (bs rs' : List Bool). get_or (truths bs rs' [] s.formulas) f false) bits_are answers_are in
     let bits = bits_built s rs n row c.requires.sound few c.args.names.now c.requires.names c.args.branch c.as_slice-2.result.now c.as_slice-2.ensures.value (take (c.bits_of.result - 0) row.bits) bits_are c.resolve-resolved.result.truths true' c.next_bits-bits.result c.next_bits-bits.ensures in
     let bits_room : length c.next_bits-bits.result ≡ 16 = search rules in
-    let vector_room : length c.in-ok-vector.vector ≡ 6 = search rules in
-    row_built s rs n row c.requires.sound few c.args.names.now c.requires.names c.args.branch entries places answers terms_are places_are answers_are c.conditions_of.new.bank c.conditions_of.new.count.terms c.conditions_of.new.known x.0 x.1.recalled c.conditions_of.auto.bank c.next_vector.new.bank c.next_vector.new.count.terms c.next_vector.new.known c.in-ok-conditions.conditions c.next_bits-bits.result c.in-ok-vector.vector x.1.made y.0 y.1.made bits (omega (arith, few_bits s c.args.sheet.now.lawful)) (omega (arith, few_readings s c.args.sheet.now.lawful))
+    let vector_room : length c.in_ok-vector.vector ≡ 6 = search rules in
+    row_built s rs n row c.requires.sound few c.args.names.now c.requires.names c.args.branch entries places answers terms_are places_are answers_are c.conditions_of.new.bank c.conditions_of.new.count.terms c.conditions_of.new.known x.0 x.1.recalled c.conditions_of.auto.bank c.next_vector.new.bank c.next_vector.new.count.terms c.next_vector.new.known c.in_ok-conditions.conditions c.next_bits-bits.result c.in_ok-vector.vector x.1.made y.0 y.1.made bits (omega (arith, few_bits s c.args.sheet.now.lawful)) (omega (arith, few_readings s c.args.sheet.now.lawful))

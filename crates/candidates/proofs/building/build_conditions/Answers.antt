@@ -9,8 +9,8 @@ use Rattle.candidates.proofs.building.build_conditions.Goals as goal
 pub answers_of-answers-requires : goal.answers_of-answers-requires
 answers_of-answers-requires c = omega (arith, c.questions_of-asked.ensures, few_questions (sheet_of c.args.sheet.now) c.args.sheet.now.lawful)
 
-pub slice-bounds-conditions_of-end-2 : goal.slice-bounds-conditions_of-end-2
-slice-bounds-conditions_of-end-2 c =
+pub slice_bounds-conditions_of-end-2 : goal.slice_bounds-conditions_of-end-2
+slice_bounds-conditions_of-end-2 c =
     let few : c.questions_of-asked.result ≤ 6 = omega (arith, c.questions_of-asked.ensures, few_questions (sheet_of c.args.sheet.now) c.args.sheet.now.lawful) in
     search rules
 

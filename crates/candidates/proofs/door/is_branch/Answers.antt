@@ -8,8 +8,8 @@ use Rattle.candidates.proofs.door.is_branch.Goals as goal
 pub overflow_cast-branches : goal.overflow_cast-branches
 overflow_cast-branches c = let few : c.questions_of.result ≤ 6 = omega (arith, c.questions_of.ensures, few_questions (sheet_of c.args.sheet.now) c.args.sheet.now.lawful) in omega arith
 
-pub overflow-shl-branches : goal.overflow-shl-branches
-overflow-shl-branches c = let few : c.questions_of.result ≤ 6 = omega (arith, c.questions_of.ensures, few_questions (sheet_of c.args.sheet.now) c.args.sheet.now.lawful) in omega arith
+pub overflow_shl-branches : goal.overflow_shl-branches
+overflow_shl-branches c = let few : c.questions_of.result ≤ 6 = omega (arith, c.questions_of.ensures, few_questions (sheet_of c.args.sheet.now) c.args.sheet.now.lawful) in omega arith
 
 pub returns : goal.returns
 returns c =
