@@ -1,6 +1,6 @@
 -- Different terms, counted: when a list of terms, each with its subterms, has room in a bank. Assumes nothing.
 use Rattle.std.specs.Prelude.{◌≡◌, ℕ, ◌<◌, ◌≤◌, List, length}
-use Rattle.std.specs.List.{ContainsAt as Has, AllByRecursion as All}
+use Rattle.std.specs.List.{ContainsAt as Has, AllByRecursion}
 use Rattle.terms.specs.declared.TermRecord.{TermRecord}
 use Rattle.terms.specs.Terms.{Term, name, constant, unary, binary, ternary}
 use Rattle.terms.specs.Bank.{Bank, term_at}
@@ -15,7 +15,7 @@ Throughout P (ternary f a b c) = P (ternary f a b c) × Throughout P a × Throug
 
 -- a list that has the terms ts and all their subterms
 abbrev pub HasAll : List Term → List Term → Type 0
-HasAll all ts = All (Throughout (Has all)) ts
+HasAll all ts = AllByRecursion (Throughout (Has all)) ts
 
 -- there are at most 512 different terms among ts and their subterms
 abbrev pub Roomy : List Term → Type 0
@@ -32,5 +32,5 @@ Held rs n t = (p : ℕ) × (p < n) × (term_at rs p ≡ t)
 -- the bank's first n places hold the terms ts, all their subterms, and nothing else
 pub record Holding (rs : List TermRecord) (n : ℕ) (ts : List Term) : Type 0 where
   pub bank : Bank rs n
-  pub has : All (Held rs n) ts
+  pub has : AllByRecursion (Held rs n) ts
   pub only : (all : List Term) → HasAll all ts → (k : ℕ) → k < n → Has all (term_at rs k)

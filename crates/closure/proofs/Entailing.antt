@@ -1,12 +1,11 @@
 -- A goal is entailed exactly where the conditions with its negation are impossible, and closing those.
-use Rattle.std.proofs.Common.{◌≡◌, ℕ, zero, suc, ◌+◌, ◌<◌, ◌≤◌, Bool, true, false, ◌⊎◌, List, [], ◌∷◌, map, length, get_or, Decides, MatchBool, sym, refl, ap, ◌∙◌, subst, inl, inr, ⊎_elim, arith}
-use Rattle.std.specs.List.{ContainsAt as Has, AllByRecursion as All}
+use Rattle.std.proofs.Common.{◌≡◌, ℕ, zero, suc, ◌+◌, ◌<◌, ◌≤◌, Bool, true, false, ◌⊎◌, List, ◌∷◌, length, get_or, Decides, MatchBool, sym, refl, ap, subst, inl, inr, ⊎_elim, arith}
 use Rattle.std.proofs.lemmas.Bool.{cases_eq, true≢false}
 use Rattle.terms.specs.declared.TermRecord.{TermRecord}
 use Rattle.terms.specs.declared.Condition.{Condition}
 use Rattle.terms.specs.declared.Sign.{Sign}
 use Rattle.terms.specs.declared.Sign.TheVariants.{Equal, Different}
-use Rattle.terms.specs.Terms.{Term, Interpretation, eval, Literal, AreSigned, Holds, Sat, Entails}
+use Rattle.terms.specs.Terms.{Term, eval, Literal, AreSigned, Sat, Entails}
 use Rattle.terms.specs.Bank.{term_at, literal_of, Ordered}
 use Rattle.closure.specs.Congruence.{Congruent, equation, itself, turned, chained, unaries, binaries, ternaries}
 use Rattle.closure.specs.Labels.{no_condition, literals, label, classes, Ready, Answered}

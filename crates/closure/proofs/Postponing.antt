@@ -1,5 +1,5 @@
 -- Equations put off: they stay due as the labels grow.
-use Rattle.std.proofs.Common.{◌≡◌, ℕ, ◌+◌, ◌<◌, ◌≤◌, Bool, true, false, List, [], ◌∷◌, ◌++◌, length, Ok, Err, Result, sym, refl, ap, ◌∙◌, subst, add-zero, zero-add, arith}
+use Rattle.std.proofs.Common.{◌≡◌, ℕ, ◌+◌, ◌<◌, ◌≤◌, Bool, true, false, List, [], ◌∷◌, ◌++◌, length, Ok, Err, Result, sym, ap, ◌∙◌, subst, add-zero, zero-add, arith}
 use Rattle.queue.specs.declared.Queue.{Queue}
 use Rattle.queue.specs.Entries.{entries, room}
 use Rattle.queue.proofs.Rings.{length-ring}
@@ -9,8 +9,8 @@ use Rattle.std.proofs.ByRecursion.{All-append, All-weaker}
 use Rattle.terms.specs.declared.TermRecord.{TermRecord}
 use Rattle.terms.specs.Bank.{Ordered}
 use Rattle.closure.specs.declared.pending.Equation.{Equation}
-use Rattle.closure.specs.Labels.{label, classes}
-use Rattle.closure.specs.Working.{sig, Forced, Rooted, Joined, Grown, flag}
+use Rattle.closure.specs.Labels.{classes}
+use Rattle.closure.specs.Working.{sig, Rooted, Joined, Grown, flag}
 use Rattle.closure.specs.Pending.{DueOne, Due, Added}
 use Rattle.closure.proofs.Theory.{congruent_sigs}
 use Rattle.closure.proofs.Merging.{join_facts}

@@ -1,13 +1,12 @@
 -- Taking the conditions in one by one, and the end of it.
-use Rattle.std.proofs.Common.{◌≡◌, ℕ, suc, ◌+◌, ◌<◌, ◌≤◌, Bool, true, false, ◌⊎◌, List, length, get_or, sym, refl, ap, ◌∙◌, subst, inl, inr, ⊎_elim, arith}
+use Rattle.std.proofs.Common.{◌≡◌, ℕ, ◌+◌, ◌<◌, Bool, true, false, List, length, get_or, sym, refl, ◌∙◌, subst, ⊎_elim, arith}
 use Rattle.std.proofs.lemmas.Bool.{cases_lt, true≢false}
 use Rattle.terms.specs.declared.TermRecord.{TermRecord}
 use Rattle.terms.specs.declared.Condition.{Condition}
 use Rattle.terms.specs.declared.Sign.{Sign}
 use Rattle.terms.specs.declared.Sign.TheVariants.{Equal, Different}
-use Rattle.terms.specs.Bank.{term_at, Ordered}
-use Rattle.closure.specs.Labels.{no_condition, literals, label, classes}
-use Rattle.closure.specs.Working.{Closed, Rooted, Forced, Meets, Settled, Spare, Joined, Grown, Assuming, Assumed, AssumedAs, flag}
+use Rattle.closure.specs.Labels.{no_condition, literals, label}
+use Rattle.closure.specs.Working.{Closed, Settled, Spare, Joined, Grown, Assuming, Assumed, AssumedAs, flag}
 use Rattle.closure.proofs.Theory.{congruent_given}
 use Rattle.closure.proofs.Merging.{join_facts, join_meets, rooted_start, classes-start, forced_start}
 

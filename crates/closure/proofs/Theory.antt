@@ -1,8 +1,8 @@
 -- Labels that are closed and forced decide the conditions: a model from the labels, and congruence in every model.
-use Rattle.std.proofs.Common.{◌≡◌, ℕ, zero, suc, ◌^◌, ◌<◌, ◌≤◌, Bool, true, false, cond, ◌⊎◌, List, [], ◌∷◌, map, length, get_or, sym, refl, ap, ◌∙◌, subst, inl, inr, ⊎_elim, arith}
+use Rattle.std.proofs.Common.{◌≡◌, ℕ, zero, suc, ◌^◌, ◌<◌, ◌≤◌, true, false, cond, List, [], ◌∷◌, length, get_or, sym, refl, ap, ◌∙◌, subst, ⊎_elim, arith}
 use Rattle.std.specs.List.{ContainsAt as Has, AllByRecursion as All}
 use Rattle.std.proofs.lemmas.List.{get_or-map, length-map}
-use Rattle.std.proofs.ByRecursion.{all-has, All-from_get_or, All-get_or, All-map}
+use Rattle.std.proofs.ByRecursion.{all-has, All-from_get_or, All-map}
 use Rattle.std.proofs.lemmas.Bool.{cases_Bool, cases_lt, cond-true, cond-false, both_ways}
 use Rattle.terms.specs.declared.Node.{Node}
 use Rattle.terms.specs.declared.Node.TheVariants.{Name, Constant, Unary, Binary, Ternary}
@@ -10,15 +10,15 @@ use Rattle.terms.specs.declared.TermRecord.{TermRecord}
 use Rattle.terms.specs.declared.Condition.{Condition}
 use Rattle.terms.specs.declared.Sign.{Sign}
 use Rattle.terms.specs.declared.Sign.TheVariants.{Equal, Different}
-use Rattle.terms.specs.Terms.{Term, name, constant, unary, binary, ternary, Interpretation, eval, same, Literal, AreSigned, Holds, Sat}
+use Rattle.terms.specs.Terms.{Term, name, constant, Interpretation, eval, same, Literal, AreSigned, Holds, Sat}
 use Rattle.terms.specs.Bank.{Fit, node_at, term_of, term_at, literal_of, relabel, Ordered}
-use Rattle.terms.proofs.Standing.{term_of-same, term_at-ordered}
+use Rattle.terms.proofs.Standing.{term_at-ordered}
 use Rattle.terms.proofs.Same.{same_self, same_true, node_from_term}
 use Rattle.terms.proofs.Filing.{fit_more}
 use Rattle.terms.proofs.Changing.{term_of-relabel}
 use Rattle.closure.specs.Congruence.{Congruent, equation, itself, turned, chained, unaries, binaries, ternaries}
 use Rattle.closure.specs.Labels.{no_condition, literals, label, ByCongruence}
-use Rattle.closure.specs.Working.{sig, Closed, Rooted, Forced, Meets, Broken, Settled}
+use Rattle.closure.specs.Working.{sig, Closed, Rooted, Forced, Broken, Settled}
 
 pub congruent_at : (cs : List Literal) (at at' : ℕ → Term) (n : ℕ) (node : Node) → Fit n node → ((a : ℕ) → a < n → Congruent cs (at a) (at' a)) → Congruent cs (term_of at node) (term_of at' node)
 congruent_at cs at at' n (Name x) fit e = itself (name x)

@@ -3,8 +3,7 @@ use Rattle.std.proofs.Common.{◌≡◌, ℕ, ◌+◌, ◌<◌, ◌≤◌, Bool,
 use Rattle.std.proofs.lemmas.Bool.{true≢false}
 use Rattle.terms.specs.declared.TermRecord.{TermRecord}
 use Rattle.terms.specs.Bank.{Ordered}
-use Rattle.closure.specs.Labels.{label}
-use Rattle.closure.specs.Working.{sig, Closed, Rooted, Joined, Grown, Swept, bucket_of, Reaches, Chains, flag}
+use Rattle.closure.specs.Working.{sig, Rooted, Joined, Grown, Swept, bucket_of, Reaches, Chains, flag}
 use Rattle.closure.proofs.Theory.{congruent_sigs}
 use Rattle.closure.proofs.Merging.{grown_join, grown_none, grown_more, classes_few}
 use Rattle.closure.proofs.Chaining.{tabled_found, tabled_more, closed_found, closed_new, new_signature}

@@ -1,21 +1,20 @@
 -- What a change makes of the bank's terms, node by node, and what it adds to the bank.
-use Rattle.std.proofs.Common.{◌≡◌, ℕ, ◌<◌, ◌≤◌, Bool, true, false, cond, eqb, ◌⊎◌, List, [], ◌∷◌, ◌++◌, map, length, get_or, set, IsErrAnd, Some, None, Ok, Err, Option, Result, sym, refl, ap, ◌∙◌, subst, inl, inr, ⊎_elim, arith}
+use Rattle.std.proofs.Common.{◌≡◌, ℕ, ◌<◌, ◌≤◌, true, eqb, List, [], ◌∷◌, ◌++◌, map, length, get_or, set, IsErrAnd, Some, None, Ok, Err, Option, Result, sym, refl, ap, ◌∙◌, subst, ⊎_elim, arith}
 use Rattle.std.specs.List.{ContainsAt as Has}
 use Rattle.std.proofs.ByRecursion.{All-append}
 use Rattle.std.proofs.lemmas.List.{get_or-set_same, get_or-set_other, set_past}
 use Rattle.std.proofs.lemmas.Bool.{cond-true, cond-false, cases_Bool, cases_lt, eqb-true, eqb-false, eq-eqb}
 use Rattle.fault.specs.declared.TableFault.{TableFault}
-use Rattle.fault.specs.declared.TableFault.TheVariants.{TermsExhausted}
 use Rattle.terms.specs.declared.Node.{Node}
 use Rattle.terms.specs.declared.Node.TheVariants.{Name, Constant, Unary, Binary, Ternary}
 use Rattle.terms.specs.declared.TermRecord.{TermRecord}
-use Rattle.terms.specs.Terms.{Term, name, constant, unary, binary, ternary, same, replaced, renamed}
+use Rattle.terms.specs.Terms.{Term, name, unary, binary, ternary, same, replaced, renamed}
 use Rattle.terms.specs.Bank.{Bank, Extends, Interned, Filed, Fit, node_at, term_of, term_at}
 use Rattle.terms.proofs.Filing.{extends_none, extends_more}
-use Rattle.terms.proofs.Changing.{replaced_of, renamed_of}
+use Rattle.terms.proofs.Changing.{replaced_of}
 use Rattle.terms.proofs.Same.{same_self, same_true}
 use Rattle.terms.proofs.Standing.{term_at-ordered}
-use Rattle.banks.specs.Room.{Throughout, HasAll, Held}
+use Rattle.banks.specs.Room.{Throughout, HasAll}
 use Rattle.banks.specs.Gains.{Gained, Overfull}
 use Rattle.banks.proofs.Gaining.{gained_none, gained_held, gained_more, gained_as, gained_interned, overfull_interned, overfull_later, overfull_as, all_left}
 use Rattle.folding.specs.declared.change.Change.{Change}

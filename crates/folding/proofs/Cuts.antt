@@ -1,10 +1,9 @@
 -- Cuts follow one another, and end in the form.
-use Rattle.std.proofs.Common.{◌≡◌, ℕ, zero, suc, ◌<◌, ◌≤◌, Bool, true, false, cond, ◌⊎◌, List, [], ◌∷◌, ◌++◌, map, length, Some, None, Option, sym, refl, ap, ◌∙◌, subst, inl, inr, ⊎_elim, arith}
+use Rattle.std.proofs.Common.{◌≡◌, ℕ, zero, suc, ◌<◌, Bool, cond, List, ◌++◌, Some, None, Option, sym, refl, ap, ◌∙◌, subst, inl, inr, arith}
 use Rattle.fault.specs.declared.TableFault.{TableFault}
-use Rattle.fault.specs.declared.TableFault.TheVariants.{NamesExhausted, TermsExhausted}
 use Rattle.sheet.specs.System.{System}
 use Rattle.terms.specs.declared.TermRecord.{TermRecord}
-use Rattle.terms.specs.Terms.{Term, name, replaced}
+use Rattle.terms.specs.Terms.{Term, name}
 use Rattle.terms.specs.Bank.{Bank, Extends, term_at}
 use Rattle.terms.proofs.Filing.{extends_none, extends_more}
 use Rattle.banks.specs.Room.{Holding}
@@ -23,7 +22,7 @@ use Rattle.forms.proofs.Shrinking.{sizes, vector_smaller, cutting_rules}
 use Rattle.folding.specs.declared.change.Change.TheVariants.{Replace}
 use Rattle.folding.specs.Rewriting.{Refused}
 use Rattle.folding.specs.Rewritten.{changed_row, RowChanged}
-use Rattle.folding.specs.Outcome.{CutMade, CutRefused, Comes, Reached, CutsMade, CutsWant, CutsRefused, FormMade}
+use Rattle.folding.specs.Outcome.{CutMade, CutRefused, Comes, CutsMade, CutsWant, CutsRefused, FormMade}
 
 lowest-same : (f g : ℕ → Bool) → ((x : ℕ) → f x ≡ g x) → (k x : ℕ) → lowest_from f k x ≡ lowest_from g k x
 lowest-same f g same zero x = refl

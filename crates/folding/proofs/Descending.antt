@@ -1,12 +1,12 @@
 -- The first term that is too high, and the way down from it.
-use Rattle.std.proofs.Common.{◌≡◌, ℕ, zero, suc, ◌+◌, ◌-◌, ◌<◌, ◌≤◌, max, Bool, true, false, cond, eqb, ltb, List, [], ◌∷◌, map, length, get_or, take, drop, Some, None, Option, sym, refl, ap, ◌∙◌, subst, arith, drop_of_length-le}
+use Rattle.std.proofs.Common.{◌≡◌, ℕ, suc, ◌+◌, ◌-◌, ◌<◌, ◌≤◌, max, false, cond, eqb, ltb, List, ◌∷◌, map, length, get_or, take, drop, Some, None, sym, refl, ap, ◌∙◌, subst, arith, drop_of_length-le}
 use Rattle.std.proofs.lemmas.List.{drop_more, get_or-take, length-take-le}
 use Rattle.std.proofs.lemmas.Bool.{cond-true, cond-false, eq-eqb, ne_eqb, lt-ltb}
 use Rattle.std.proofs.lemmas.Bool.Decides.{nat_tests}
 use Rattle.terms.specs.declared.Node.{Node}
-use Rattle.terms.specs.declared.Node.TheVariants.{Name, Constant, Unary, Binary, Ternary}
+use Rattle.terms.specs.declared.Node.TheVariants.{Unary, Binary, Ternary}
 use Rattle.terms.specs.declared.TermRecord.{TermRecord}
-use Rattle.terms.specs.Terms.{Term, name, constant, unary, binary, ternary, height}
+use Rattle.terms.specs.Terms.{Term, unary, binary, ternary, height}
 use Rattle.terms.specs.Bank.{Bank, Fit, no_record, node_at, term_at, term_of}
 use Rattle.terms.proofs.Standing.{term_at-ordered}
 use Rattle.forms.specs.Form.{first_higher, lowest}

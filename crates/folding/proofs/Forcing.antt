@@ -1,6 +1,6 @@
 -- A renaming is forced on the names of what it renames, so that all renamings that fit a vector agree on the
 -- conditions whose names stand in it.
-use Rattle.std.proofs.Common.{◌≡◌, ℕ, zero, suc, ◌<◌, ◌≤◌, Bool, true, false, ◌&&◌, ◌||◌, ◌⊎◌, List, [], ◌∷◌, map, length, get_or, take, Some, None, Option, sym, refl, ap, ◌∙◌, inl, inr, ⊎_elim, arith, MatchOption}
+use Rattle.std.proofs.Common.{◌≡◌, ℕ, zero, suc, ◌<◌, ◌≤◌, Bool, true, ◌&&◌, ◌||◌, List, [], ◌∷◌, map, length, get_or, take, Some, None, Option, sym, refl, ap, ◌∙◌, ⊎_elim, arith, MatchOption}
 use Rattle.std.proofs.lemmas.List.{length-take, length-take-le, get_or-take}
 use Rattle.std.specs.List.{AllByRecursion as All}
 use Rattle.std.proofs.lemmas.Bool.{eqb-true, and_parts, or_cases}
@@ -14,7 +14,7 @@ use Rattle.forms.specs.Rows.{Row, occurs_in_terms}
 use Rattle.forms.specs.Form.{names_among, is_named}
 use Rattle.forms.specs.Matching.{renamed_in, Fits}
 use Rattle.forms.specs.Counted.{FitsVector}
-use Rattle.folding.specs.Pairing.{Renames, RenamesEach}
+use Rattle.folding.specs.Pairing.{RenamesEach}
 use Rattle.folding.specs.declared.renaming.Renaming.{Renaming}
 use Rattle.folding.specs.Matched.{sends, Closed}
 use Rattle.folding.proofs.RowPasses.{literals_equal}

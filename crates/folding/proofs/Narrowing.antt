@@ -1,11 +1,11 @@
 -- Narrowing: tests one after another, and what the walk over two terms learns at each node.
-use Rattle.std.proofs.Common.{◌≡◌, ℕ, zero, suc, ◌+◌, ◌<◌, ◌≤◌, Bool, true, false, eqb, ◌⊎◌, List, [], ◌∷◌, length, get_or, set, replicate, Some, None, Option, unwrap_or, sym, refl, ap, ◌∙◌, subst, inl, inr, ⊎_elim, arith, lit<}
+use Rattle.std.proofs.Common.{◌≡◌, ℕ, zero, suc, ◌+◌, ◌<◌, ◌≤◌, Bool, true, false, eqb, List, [], ◌∷◌, length, get_or, set, replicate, Some, None, Option, unwrap_or, sym, refl, ap, ◌∙◌, subst, ⊎_elim, arith, lit<}
 use Rattle.std.proofs.lemmas.List.{get_or-set_same, get_or-set_other, get_or_past}
 use Rattle.std.proofs.lemmas.Bool.{cases_eq, cases_lt, eqb-true, eq-eqb, true≢false}
 use Rattle.terms.specs.declared.Node.{Node}
-use Rattle.terms.specs.declared.Node.TheVariants.{Name, Constant, Unary, Binary, Ternary}
+use Rattle.terms.specs.declared.Node.TheVariants.{Name, Unary, Binary, Ternary}
 use Rattle.terms.specs.declared.TermRecord.{TermRecord}
-use Rattle.terms.specs.Terms.{Term, name, constant, unary, binary, ternary, renamed}
+use Rattle.terms.specs.Terms.{Term, name, renamed}
 use Rattle.terms.specs.Bank.{Bank, Ordered, node_at, term_of, term_at}
 use Rattle.terms.proofs.Standing.{term_at-ordered}
 use Rattle.folding.specs.Pairing.{Respects, Stronger, Renames, RenamesEach, Narrowed, Pictured}

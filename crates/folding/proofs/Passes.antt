@@ -1,5 +1,5 @@
 -- One more place, and one more condition, of a pass that changes terms.
-use Rattle.std.proofs.Common.{◌≡◌, ℕ, zero, suc, ◌+◌, ◌<◌, ◌≤◌, ◌⊎◌, List, [], ◌∷◌, ◌++◌, map, length, get_or, take, set, Ok, Err, Option, sym, refl, ap, ◌∙◌, subst, inl, inr, ⊎_elim, arith}
+use Rattle.std.proofs.Common.{◌≡◌, ℕ, zero, suc, ◌+◌, ◌<◌, ◌≤◌, List, [], ◌∷◌, ◌++◌, map, length, get_or, take, set, Ok, Err, Option, sym, refl, ap, ◌∙◌, subst, ⊎_elim, arith}
 use Rattle.std.specs.List.{ContainsAt as Has, AllByRecursion as All}
 use Rattle.std.proofs.lemmas.List.{get_or-set_same, get_or-set_other, take_more}
 use Rattle.std.proofs.lemmas.Bool.{cases_lt}
@@ -10,7 +10,6 @@ use Rattle.terms.specs.Terms.{Term}
 use Rattle.terms.specs.Bank.{Bank, Extends}
 use Rattle.closure.specs.Labels.{no_condition}
 use Rattle.banks.specs.Room.{Throughout, HasAll}
-use Rattle.banks.specs.Gains.{Overfull}
 use Rattle.banks.proofs.Gaining.{all_left, overfull_as}
 use Rattle.folding.specs.declared.change.Change.{Change}
 use Rattle.folding.specs.Rewriting.{arg, Suits, Known, Rewritten, Walked, Became, NoRoom, PlacesChanged, side_places, ConditionsChanged}

@@ -1,15 +1,13 @@
 -- A row changed throughout, from its vector and its conditions.
-use Rattle.std.proofs.Common.{◌≡◌, ℕ, zero, suc, ◌+◌, ◌<◌, ◌≤◌, ◌⊎◌, List, [], ◌∷◌, ◌++◌, map, length, get_or, take, set, replicate, Some, None, Option, sym, refl, ap, ◌∙◌, subst, inl, inr, ⊎_elim, arith}
-use Rattle.std.specs.List.{ContainsAt as Has, AllByRecursion as All}
+use Rattle.std.proofs.Common.{◌≡◌, ℕ, zero, suc, ◌<◌, ◌≤◌, List, [], ◌∷◌, ◌++◌, map, length, get_or, take, replicate, Some, None, Option, sym, refl, ap, ◌∙◌, subst, arith}
+use Rattle.std.specs.List.{ContainsAt as Has}
 use Rattle.std.proofs.lemmas.List.{length-take-le, get_or-take}
-use Rattle.std.proofs.lemmas.Bool.{cases_lt}
 use Rattle.fault.specs.declared.TableFault.{TableFault}
-use Rattle.fault.specs.declared.TableFault.TheVariants.{TermsExhausted}
 use Rattle.sheet.specs.System.{System}
 use Rattle.terms.specs.declared.Condition.{Condition}
 use Rattle.terms.specs.declared.TermRecord.{TermRecord}
-use Rattle.terms.specs.Terms.{Term, Literal}
-use Rattle.terms.specs.Bank.{Bank, Extends, term_at, literal_of}
+use Rattle.terms.specs.Terms.{Literal}
+use Rattle.terms.specs.Bank.{Extends, term_at, literal_of}
 use Rattle.terms.proofs.Filing.{extends_more}
 use Rattle.closure.specs.Labels.{no_condition}
 use Rattle.banks.specs.Gains.{Gained, Overfull}
@@ -18,9 +16,9 @@ use Rattle.banks.specs.Room.{Throughout, HasAll}
 use Rattle.rows.specs.declared.row.RowRecord.{RowRecord}
 use Rattle.forms.specs.Rows.{Row}
 use Rattle.forms.specs.Counted.{sides_of, terms_in}
-use Rattle.rows.specs.Records.{row_in, Between, Inside}
+use Rattle.rows.specs.Records.{row_in, Inside}
 use Rattle.folding.specs.declared.change.Change.{Change}
-use Rattle.folding.specs.Rewriting.{changed, arg, Suits, Known, Walked, Became, Refused, NoRoom, PlacesChanged, side_places, ConditionsChanged}
+use Rattle.folding.specs.Rewriting.{changed, arg, Suits, Known, Became, Refused, NoRoom, PlacesChanged, side_places, ConditionsChanged}
 use Rattle.folding.specs.Rewritten.{changed_in, changed_row, RowChanged}
 use Rattle.folding.proofs.Changes.{arg_stays}
 use Rattle.folding.proofs.Passes.{became_later}

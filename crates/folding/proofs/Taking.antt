@@ -4,13 +4,13 @@ use Rattle.std.specs.List.{AllByRecursion as All}
 use Rattle.sheet.specs.System.{System}
 use Rattle.terms.specs.declared.TermRecord.{TermRecord}
 use Rattle.terms.specs.Terms.{Term, Entails}
-use Rattle.terms.specs.Bank.{Bank, no_record, term_at, literal_of}
+use Rattle.terms.specs.Bank.{Bank, no_record, term_at}
 use Rattle.closure.specs.Labels.{literals}
 use Rattle.banks.specs.Room.{Roomy, Crowded, Holding}
 use Rattle.rows.specs.declared.row.RowRecord.{RowRecord}
 use Rattle.forms.specs.Rows.{Row, occurs_in_terms}
 use Rattle.forms.specs.Form.{names_among, is_named}
-use Rattle.forms.specs.Matching.{renamed_in, Fits, Takes}
+use Rattle.forms.specs.Matching.{renamed_in}
 use Rattle.forms.specs.Counted.{FitsVector, sides_of}
 use Rattle.rows.specs.Records.{Inside, Sound}
 use Rattle.folding.specs.declared.renaming.Renaming.{Renaming}

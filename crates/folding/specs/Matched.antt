@@ -1,6 +1,6 @@
 -- What the question whether an older row takes a form answers. Assumes nothing.
 use Rattle.std.specs.Prelude.{◌≡◌, ℕ, ◌<◌, ◌≤◌, Bool, true, ◌⊎◌, List, ◌++◌, map, length, Some, None, Ok, Err, Decides, Option, Result, slice_index}
-use Rattle.std.specs.List.{AllByRecursion as All}
+use Rattle.std.specs.List.{AllByRecursion}
 use Rattle.fault.specs.declared.TableFault.{TableFault}
 use Rattle.fault.specs.declared.TableFault.TheVariants.{BadMemory, TermsExhausted}
 use Rattle.sheet.specs.System.{System}
@@ -23,7 +23,7 @@ sends r x = slice_index r.to x
 
 -- the conditions of the row have only names of its vector
 abbrev pub Closed : Row → Type 0
-Closed row = All (λ c. is_named row.vector c ≡ true) row.conditions
+Closed row = AllByRecursion (λ c. is_named row.vector c ≡ true) row.conditions
 
 -- memory with two rows that can be compared, and room for labels
 pub record Comparable (s : System) (rs : List TermRecord) (n : ℕ) (o f : RowRecord) (labels : List ℕ) : Type 0 where
@@ -59,7 +59,7 @@ pub record LacksRoom (rs : List TermRecord) (n : ℕ) (older form : Row) : Type 
 abbrev pub Weighed : List TermRecord → ℕ → (ℕ → ℕ) → List Literal → List Literal → Result Bool TableFault → Type 0
 Weighed rs n to older given (Ok answer) =
     ((seen : List Term) → Holding rs n seen → Roomy (seen ++ sides_of (map (renamed_in to) older)))
-    × Decides answer (All (Entails given) (map (renamed_in to) older))
+    × Decides answer (AllByRecursion (Entails given) (map (renamed_in to) older))
 Weighed rs n to older given (Err e) =
     (e ≡ TermsExhausted) × ((seen : List Term) → Holding rs n seen → Crowded (seen ++ sides_of (map (renamed_in to) older)))
 

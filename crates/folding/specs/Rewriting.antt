@@ -1,5 +1,5 @@
 -- Terms of the bank changed throughout: one replaced by a name, or every name renamed. Assumes nothing.
-use Rattle.std.specs.Prelude.{◌≡◌, ℕ, ◌<◌, ◌≤◌, cond, List, [], ◌∷◌, map, length, get_or, take, Some, None, Ok, Err, Option, Result, ◌==◌, slice_index, slice_index_or, slice_set}
+use Rattle.std.specs.Prelude.{◌≡◌, ℕ, ◌<◌, ◌≤◌, cond, List, [], ◌∷◌, map, get_or, take, Some, None, Ok, Err, Option, Result, ◌==◌, slice_index, slice_index_or, slice_set}
 use Rattle.fault.specs.declared.TableFault.{TableFault}
 use Rattle.fault.specs.declared.TableFault.TheVariants.{TermsExhausted}
 use Rattle.terms.specs.declared.Condition.{Condition}
@@ -7,7 +7,7 @@ use Rattle.terms.specs.declared.Node.{Node}
 use Rattle.terms.specs.declared.Node.TheVariants.{Name, Constant, Unary, Binary, Ternary}
 use Rattle.terms.specs.declared.TermRecord.{TermRecord}
 use Rattle.terms.specs.Terms.{Term, name, replaced, renamed}
-use Rattle.terms.specs.Bank.{Extends, term_at, term_of}
+use Rattle.terms.specs.Bank.{Extends, term_at}
 use Rattle.closure.specs.Labels.{no_condition}
 use Rattle.banks.specs.Gains.{Gained, Overfull}
 use Rattle.folding.specs.declared.change.Change.{Change}

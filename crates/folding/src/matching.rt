@@ -1,6 +1,6 @@
 //! Whether an older row takes a form.
 ghost use Rattle.std.specs.Prelude.{◌≡◌, ℕ, ◌<◌, ◌≤◌, true, List, ◌∷◌, length, take, Decides, MatchOption};
-ghost use Rattle.std.specs.List.{AllByRecursion as All};
+ghost use Rattle.std.specs.List.{AllByRecursion};
 ghost use Rattle.sheet.specs.View.{sheet_of};
 ghost use Rattle.terms.specs.Terms.{Entails, Term};
 ghost use Rattle.terms.specs.Bank.{Bank, Stays, literal_of};
@@ -78,7 +78,7 @@ fn are_entailed(
     requires given { Between count.terms given.now (length given.now) }
     requires goals { Between count.terms goals.now used }
     requires stored { used ≤ length goals.now }
-    ensures { Decides result (All (Entails (literals bank.now given.now)) (literals bank.now (take used goals.now))) }
+    ensures { Decides result (AllByRecursion (Entails (literals bank.now given.now)) (literals bank.now (take used goals.now))) }
 {
     for k in 0..used {
         if !is_entailed(bank, count, given, goals[k], labels) {
@@ -161,7 +161,7 @@ fn are_named(
     requires bank { Bank bank.now terms }
     requires stored { used ≤ length conditions.now }
     requires between { Between terms conditions.now used }
-    ensures { (vector : List Term) → NamesIn names vector → Decides result (All (λ c. is_named vector c ≡ true) (literals bank.now (take used conditions.now))) }
+    ensures { (vector : List Term) → NamesIn names vector → Decides result (AllByRecursion (λ c. is_named vector c ≡ true) (literals bank.now (take used conditions.now))) }
 {
     for k in 0..used {
         if !is_named(bank, terms, names, conditions[k]) {

@@ -1,9 +1,9 @@
 -- Building with the terms counted comes to one outcome, and what it makes is the form.
-use Rattle.std.proofs.Common.{◌≡◌, ℕ, ◌⊎◌, List, [], ◌∷◌, ◌++◌, Some, None, Option, sym, refl, ap, ◌∙◌, subst, inl, inr, arith}
+use Rattle.std.proofs.Common.{◌≡◌, ℕ, ◌⊎◌, List, ◌++◌, Some, None, sym, refl, ap, ◌∙◌, subst, inl, inr, arith}
 use Rattle.terms.specs.Terms.{Term, name}
 use Rattle.banks.specs.Room.{Roomy, Crowded}
 use Rattle.forms.specs.Rows.{Row, stands, lowest_free}
-use Rattle.forms.specs.Form.{first_higher, lowest, replaced_row, trimmed, Cut, low as cut_low, nameless as cut_nameless, cut as is_cut, Form}
+use Rattle.forms.specs.Form.{first_higher, lowest, replaced_row, trimmed, Cut, low as cut_low, nameless as cut_nameless, cut as is_cut}
 use Rattle.forms.specs.Counted.{terms_in, Built, made, nameless, crowded, CutIn, low, wanting, full, cut, FormIn}
 use Rattle.forms.specs.Laws.{CountedForm}
 use Rattle.forms.proofs.Shaping.{none_some, one_some}

@@ -1,5 +1,5 @@
 -- The form covers all that its candidate covers: a cut's name takes the value of the term that goes.
-use Rattle.std.proofs.Common.{◌≡◌, ℕ, zero, suc, Bool, true, false, cond, ◌||◌, ◌⊎◌, List, [], ◌∷◌, map, take, Some, None, filter, Option, sym, refl, ap, ◌∙◌, inl, inr, arith}
+use Rattle.std.proofs.Common.{◌≡◌, ℕ, zero, suc, Bool, true, false, cond, ◌||◌, ◌⊎◌, List, [], ◌∷◌, map, Some, None, filter, Option, sym, refl, ap, ◌∙◌, inl, inr, arith}
 use Rattle.std.specs.List.{AllByRecursion as All}
 use Rattle.std.proofs.ByRecursion.{All-take}
 use Rattle.std.proofs.lemmas.Bool.{cond_both, cond-true, cond-false, cases_Bool, or_parts}
@@ -7,8 +7,8 @@ use Rattle.sheet.specs.Runs.{Configuration}
 use Rattle.sheet.specs.Truth.{Meaning}
 use Rattle.terms.proofs.Same.{same_true}
 use Rattle.terms.specs.Terms.{Term, name, constant, unary, binary, ternary, Interpretation, eval, occurs, same, replaced, Literal, Holds}
-use Rattle.forms.specs.Rows.{Row, Covers, CoversBy, occurs_in_terms, occurs_in_literals, stands, lowest_from, lowest_free}
-use Rattle.forms.specs.Form.{Cut, low, nameless, cut, lowest, replaced_in, replaced_row, is_among, without_repeats, is_named, is_low, trimmed, Form}
+use Rattle.forms.specs.Rows.{Row, Covers, occurs_in_terms, occurs_in_literals, stands, lowest_from, lowest_free}
+use Rattle.forms.specs.Form.{Cut, low, nameless, cut, lowest, replaced_in, replaced_row, is_among, without_repeats, is_named, is_low, trimmed}
 use Rattle.forms.specs.Laws.{FormCovers}
 use Rattle.forms.proofs.Values.{signed_same, eval-small, with_value, value_here, value_elsewhere}
 

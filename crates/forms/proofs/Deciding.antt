@@ -1,5 +1,5 @@
 -- A form is unsafe exactly where a case of the claims with a false invariant is possible.
-use Rattle.std.proofs.Common.{◌≡◌, ℕ, zero, suc, ◌+◌, ◌/◌, ◌^◌, ◌<◌, ◌≤◌, Bool, true, false, not, ◌&&◌, ◌||◌, ltb, ◌⊎◌, List, [], ◌∷◌, ◌++◌, map, length, get_or, sym, refl, ap, ◌∙◌, subst, inl, inr, ⊎_elim, arith}
+use Rattle.std.proofs.Common.{◌≡◌, ℕ, suc, ◌^◌, ◌<◌, Bool, true, false, not, ◌&&◌, ◌||◌, ltb, List, [], ◌∷◌, ◌++◌, map, length, get_or, sym, refl, ap, ◌∙◌, subst, ⊎_elim, arith}
 use Rattle.std.specs.List.{AllByRecursion as All}
 use Rattle.std.proofs.ByRecursion.{All-append}
 use Rattle.std.proofs.lemmas.List.{length-map, length_push, get_or_at, get_or_append_left}
@@ -17,10 +17,10 @@ use Rattle.sheet.specs.Runs.{Configuration, numbered, or_kept, invariant_holds}
 use Rattle.sheet.specs.System.{System}
 use Rattle.sheet.specs.Truth.{Meaning, arg_values, term_value, term_values, equal, answers, truths}
 use Rattle.sheet.proofs.Growing.{grow-length}
-use Rattle.terms.specs.Terms.{Term, Interpretation, eval, Literal, Holds, Sat}
-use Rattle.forms.specs.Rows.{Row, RowOf, CoversBy, Covers}
+use Rattle.terms.specs.Terms.{Term, Interpretation, eval, Holds}
+use Rattle.forms.specs.Rows.{Row, RowOf}
 use Rattle.forms.specs.Candidate.{no_term, applied, term_over, terms_over, branch_answers, condition_of}
-use Rattle.forms.specs.Safety.{Safe, Unsafe, Breaking, claim_conditions, invariant_in}
+use Rattle.forms.specs.Safety.{Safe, Unsafe, Breaking, claim_conditions}
 use Rattle.forms.specs.Laws.{Decided, SafetyByCases}
 use Rattle.forms.proofs.Branches.{branch_of, branch_small, answers_of_branch, answers_long}
 use Rattle.forms.proofs.Stepping.{value_at, Agrees, conditions_true, answers_told}

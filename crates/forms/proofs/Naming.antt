@@ -1,8 +1,8 @@
 -- The inputs' names are new and different, so they can have the inputs' values.
-use Rattle.std.proofs.Common.{◌≡◌, ℕ, zero, suc, ◌^◌, ◌<◌, Bool, true, false, cond, ◌||◌, eqb, ◌⊎◌, List, [], ◌∷◌, map, length, Some, None, Option, sym, refl, ap, ◌∙◌, subst, inl, inr, arith}
+use Rattle.std.proofs.Common.{◌≡◌, ℕ, zero, suc, ◌^◌, ◌<◌, Bool, true, false, cond, ◌||◌, eqb, List, [], ◌∷◌, map, length, Some, None, Option, sym, refl, ap, ◌∙◌, subst, arith}
 use Rattle.std.specs.List.{AllByRecursion as All}
 use Rattle.std.proofs.ByRecursion.{All-weaker}
-use Rattle.std.proofs.lemmas.Bool.{cond_both, cond-true, cond-false, eq-eqb, ne_eqb, eqb-false, or_parts, or_left, or_right, both_ways}
+use Rattle.std.proofs.lemmas.Bool.{cond_both, cond-true, cond-false, eq-eqb, ne_eqb, or_parts, or_left, or_right, both_ways}
 use Rattle.terms.specs.Terms.{Term, name, constant, unary, binary, ternary, Interpretation, eval, occurs, Literal, Holds}
 use Rattle.forms.specs.Rows.{occurs_in_terms, occurs_in_literals, lowest_free}
 use Rattle.forms.specs.Candidate.{or_none, names_for}

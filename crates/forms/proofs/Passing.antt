@@ -1,5 +1,5 @@
 -- A covered configuration goes through exactly one branch, and that branch's candidate covers the next one.
-use Rattle.std.proofs.Common.{◌≡◌, ℕ, ◌+◌, ◌^◌, ◌<◌, ◌≤◌, Bool, true, false, List, [], ◌∷◌, ◌++◌, map, length, get_or, Some, None, Option, sym, refl, ap, ◌∙◌, subst, subst₂, zero-add, arith}
+use Rattle.std.proofs.Common.{◌≡◌, ℕ, ◌^◌, ◌<◌, Bool, false, List, [], map, length, get_or, Some, None, Option, sym, refl, ap, ◌∙◌, subst, subst₂, zero-add, arith}
 use Rattle.std.specs.List.{AllByRecursion as All}
 use Rattle.std.proofs.ByRecursion.{All-append, All-weaker}
 use Rattle.std.proofs.lemmas.List.{length-map}
@@ -10,12 +10,12 @@ use Rattle.sheet.specs.Lawful.{Lawful}
 use Rattle.sheet.specs.Runs.{Configuration, numbered, or_kept, step_values, step}
 use Rattle.sheet.specs.System.{System}
 use Rattle.sheet.specs.Truth.{Meaning, equal, answers, truths, term_of_choice, chosen}
-use Rattle.terms.specs.Terms.{Term, Interpretation, eval, Holds, Sat}
+use Rattle.terms.specs.Terms.{Term, Interpretation, eval, Holds}
 use Rattle.forms.specs.Rows.{Row, RowOf, CoversBy, Covers, occurs_in_terms, occurs_in_literals, stands}
 use Rattle.forms.specs.Candidate.{or_none, branch_answers, input_names, term_over, terms_over, row_truths, row_chosen, candidate_with, candidate}
-use Rattle.forms.specs.Laws.{Enters, Steps, InputsOf, BranchCovers, CandidateCovers, ImpossibleBranch}
+use Rattle.forms.specs.Laws.{Enters, InputsOf, BranchCovers, CandidateCovers, ImpossibleBranch}
 use Rattle.forms.proofs.Branches.{branch_of, branch_small, answers_of_branch, branch_of_answers}
-use Rattle.forms.proofs.Naming.{New, names_new, assigned, Alike, values_elsewhere, values_given, taken_elsewhere, vector_alike, conditions_alike}
+use Rattle.forms.proofs.Naming.{names_new, assigned, Alike, values_elsewhere, values_given, taken_elsewhere, vector_alike, conditions_alike}
 use Rattle.forms.proofs.Stepping.{value_at, terms_values, Agrees, conditions_true, equations_inside, choices_inside, next_values}
 
 -- the configuration that a row has under these values

@@ -1,9 +1,8 @@
 -- A fitting renaming carries covering from the form to the older row.
-use Rattle.std.proofs.Common.{◌≡◌, ℕ, List, [], ◌∷◌, map, sym, refl, ap, ◌∙◌}
+use Rattle.std.proofs.Common.{◌≡◌, ℕ, List, [], ◌∷◌, map, refl, ap, ◌∙◌}
 use Rattle.std.specs.List.{AllByRecursion as All}
 use Rattle.terms.specs.Terms.{Term, name, constant, unary, binary, ternary, Interpretation, eval, renamed, Literal, Holds, Entails}
-use Rattle.forms.specs.Rows.{Row, Covers, CoversBy}
-use Rattle.forms.specs.Matching.{renamed_in, Fits}
+use Rattle.forms.specs.Matching.{renamed_in}
 use Rattle.forms.specs.Laws.{FittingCovers}
 use Rattle.forms.proofs.Values.{signed_same}
 

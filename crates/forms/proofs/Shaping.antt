@@ -1,19 +1,18 @@
 -- Row 0 covers every start; candidates and forms have the shape that the laws need; a candidate has one form.
-use Rattle.std.proofs.Common.{◌≡◌, ℕ, zero, suc, ◌^◌, ◌<◌, ◌≤◌, min, Bool, true, false, cond, ◌&&◌, ltb, ◌⊎◌, List, [], ◌∷◌, ◌++◌, map, length, get_or, take, Some, None, filter, Option, sym, refl, ap, ◌∙◌, subst, inl, inr, ⊎_elim, arith}
+use Rattle.std.proofs.Common.{◌≡◌, ℕ, zero, suc, ◌^◌, ◌<◌, ◌≤◌, Bool, true, false, ltb, ◌⊎◌, List, [], ◌∷◌, map, length, get_or, Some, None, filter, Option, sym, refl, ap, ◌∙◌, subst, inl, inr, arith}
 use Rattle.std.specs.List.{AllByRecursion as All}
 use Rattle.std.proofs.ByRecursion.{All-take}
 use Rattle.std.proofs.lemmas.List.{length-map, length-take}
 use Rattle.std.proofs.lemmas.Bool.{cond_both, cond-true, cond-false, cases_Bool, ltb-false}
 use Rattle.sheet.specs.declared.syntax.Reading.{Reading}
 use Rattle.sheet.specs.declared.syntax.Start.{Start}
-use Rattle.sheet.specs.Runs.{Configuration, numbered, start, start_value, start_reading}
-use Rattle.sheet.specs.System.{System}
+use Rattle.sheet.specs.Runs.{numbered, start_value, start_reading}
 use Rattle.sheet.specs.Truth.{Meaning}
 use Rattle.terms.specs.Terms.{Term, name, Interpretation, eval, height, replaced, Literal}
-use Rattle.forms.specs.Rows.{Row, RowOf, Covers, start_term, start_of, first_row, stands, lowest_free}
-use Rattle.forms.specs.Candidate.{or_none, input_names, branch_answers, candidate_with, candidate}
-use Rattle.forms.specs.Form.{first_higher, lowest, replaced_row, Cut, low, nameless, cut, is_low, is_named, is_among, without_repeats, trimmed, Form}
-use Rattle.forms.specs.Laws.{Starts, FirstRowCovers, Formed, FormOf, OneForm, CandidateShaped}
+use Rattle.forms.specs.Rows.{Row, RowOf, start_term, start_of, stands, lowest_free}
+use Rattle.forms.specs.Candidate.{or_none, input_names, branch_answers, candidate_with}
+use Rattle.forms.specs.Form.{first_higher, lowest, replaced_row, Cut, low, nameless, cut, is_low, is_named, without_repeats, trimmed, Form}
+use Rattle.forms.specs.Laws.{FirstRowCovers, Formed, OneForm, CandidateShaped}
 use Rattle.forms.proofs.Cutting.{all_kept, all_once}
 use Rattle.forms.proofs.Shrinking.{some_form}
 

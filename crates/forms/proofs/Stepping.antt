@@ -1,10 +1,9 @@
 -- The sheet's terms over a row have the values that the sheet's terms have, so the candidate covers the step.
-use Rattle.std.proofs.Common.{◌≡◌, ℕ, zero, suc, ◌+◌, ◌<◌, ◌≤◌, Bool, true, false, cond, ◌&&◌, eqb, ltb, List, [], ◌∷◌, ◌++◌, map, length, get_or, Some, None, Option, sym, refl, ap, ◌∙◌, subst, arith}
+use Rattle.std.proofs.Common.{◌≡◌, ℕ, suc, ◌+◌, ◌<◌, ◌≤◌, Bool, true, false, ◌&&◌, eqb, ltb, List, [], ◌∷◌, ◌++◌, map, length, get_or, Some, None, Option, sym, refl, ap, ◌∙◌, subst, arith}
 use Rattle.std.specs.List.{AllByRecursion as All}
-use Rattle.std.proofs.ByRecursion.{All-append, All-push, All-get_or}
+use Rattle.std.proofs.ByRecursion.{All-push, All-get_or}
 use Rattle.std.proofs.lemmas.List.{map_push, length_push, get_or-map, get_or_at, append_assoc}
 use Rattle.std.proofs.lemmas.Bool.{ltb-true, eqb-true, eqb-false, eq-eqb, ne_eqb, and_parts, cond_both}
-use Rattle.sheet.proofs.Growing.{grow-length}
 use Rattle.sheet.specs.declared.syntax.Args.{Args}
 use Rattle.sheet.specs.declared.syntax.Args.TheVariants.{Zero, One, Two, Three}
 use Rattle.sheet.specs.declared.syntax.Choice.{Choice}
@@ -13,14 +12,13 @@ use Rattle.sheet.specs.declared.syntax.Reading.{Reading}
 use Rattle.sheet.specs.declared.syntax.Record.{Record}
 use Rattle.sheet.specs.declared.syntax.Term.{Term as SheetTerm}
 use Rattle.sheet.specs.Grow.{grow}
-use Rattle.sheet.specs.Lawful.{each_at, given, Lawful}
+use Rattle.sheet.specs.Lawful.{each_at, given}
 use Rattle.sheet.specs.Rules.{names, keeps, obeys_at, args_below}
-use Rattle.sheet.specs.Runs.{Configuration, numbered, or_kept, step_values, step_truths, step_chosen, next_reading, step}
+use Rattle.sheet.specs.Runs.{numbered, or_kept}
 use Rattle.sheet.specs.System.{System}
-use Rattle.sheet.specs.Truth.{Meaning, arg_values, term_value, term_values, equal, answers, truths, term_of_choice, chosen}
-use Rattle.terms.specs.Terms.{Term, name, constant, unary, binary, ternary, Interpretation, eval, Literal, AreSigned, Holds}
-use Rattle.forms.specs.Rows.{Row, RowOf, CoversBy}
-use Rattle.forms.specs.Candidate.{no_term, applied, term_over, terms_over, sign_of, condition_of, row_terms, row_truths, row_chosen, next_term_of, candidate_with}
+use Rattle.sheet.specs.Truth.{arg_values, term_value, equal, term_of_choice}
+use Rattle.terms.specs.Terms.{Term, Interpretation, eval, AreSigned, Holds}
+use Rattle.forms.specs.Candidate.{no_term, applied, term_over, sign_of, condition_of}
 use Rattle.forms.proofs.Values.{signed_same}
 
 pub value_at : (j : Interpretation) (ts : List Term) (n : ℕ) → n < length ts → get_or (map (eval j) ts) n 0 ≡ eval j (get_or ts n no_term)

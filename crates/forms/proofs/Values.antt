@@ -1,9 +1,9 @@
 -- Values of terms and truth of conditions under changed values of the names.
-use Rattle.std.proofs.Common.{◌≡◌, ℕ, ◌^◌, ◌<◌, Bool, true, false, cond, ◌||◌, eqb, List, [], ◌∷◌, map, sym, refl, ap, ◌∙◌}
-use Rattle.std.proofs.lemmas.Bool.{cond_both, cond-true, cond-false, eq-eqb, ne_eqb, eqb-false, or_parts}
+use Rattle.std.proofs.Common.{◌≡◌, ℕ, ◌^◌, ◌<◌, false, cond, eqb, [], ◌∷◌, sym, refl, ◌∙◌}
+use Rattle.std.proofs.lemmas.Bool.{cond_both, cond-true, cond-false, eq-eqb, ne_eqb, eqb-false}
 use Rattle.terms.specs.declared.Sign.{Sign}
 use Rattle.terms.specs.declared.Sign.TheVariants.{Equal, Different}
-use Rattle.terms.specs.Terms.{Term, name, constant, unary, binary, ternary, Interpretation, eval, occurs, AreSigned}
+use Rattle.terms.specs.Terms.{Term, name, constant, unary, binary, ternary, Interpretation, eval, AreSigned}
 
 pub signed_same : (g : Sign) (a a' b b' : ℕ) → a ≡ a' → b ≡ b' → AreSigned g a b → AreSigned g a' b'
 signed_same Equal a a' b b' p q e = sym p ∙ (e ∙ q)

@@ -1,7 +1,6 @@
 -- The worked examples.
-use Rattle.std.proofs.Common.{◌≡◌, ℕ, List, [], ◌∷◌, sym, refl, ap, ◌∙◌, arith}
-use Rattle.terms.specs.Terms.{Term, name, constant, unary, binary, Interpretation}
-use Rattle.forms.specs.Rows.{Row}
+use Rattle.std.proofs.Common.{◌≡◌, ℕ, [], ◌∷◌, refl, arith}
+use Rattle.terms.specs.Terms.{name, unary, binary, Interpretation}
 use Rattle.forms.specs.Form.{low, cut}
 use Rattle.forms.specs.Matching.{Takes}
 use Rattle.forms.specs.Examples.{row_of, row_with, tall, is_constant, Examples}

@@ -1,6 +1,6 @@
 -- The candidate of a row on a branch: what a step makes of the row where the questions have the branch's
 -- answers. Assumes nothing.
-use Rattle.std.specs.Prelude.{◌≡◌, ℕ, zero, suc, ◌/◌, ◌%◌, Bool, true, false, cond, ◌||◌, List, [], ◌∷◌, ◌++◌, map, length, get_or, Some, None, Option, ◌==◌, slice_index, slice_index_or}
+use Rattle.std.specs.Prelude.{ℕ, zero, suc, ◌/◌, ◌%◌, Bool, true, false, ◌||◌, List, [], ◌∷◌, ◌++◌, length, get_or, Some, None, Option, ◌==◌, slice_index, slice_index_or}
 use Rattle.sheet.specs.declared.syntax.Args.{Args}
 use Rattle.sheet.specs.declared.syntax.Args.TheVariants.{Zero, One, Two, Three}
 use Rattle.sheet.specs.declared.syntax.Bit.{Bit}

@@ -1,5 +1,5 @@
 -- The form of a candidate at a height: high terms are cut, then conditions go. Assumes nothing.
-use Rattle.std.specs.Prelude.{◌≡◌, ℕ, suc, max, Bool, true, false, cond, not, ◌&&◌, ◌||◌, List, [], ◌∷◌, map, take, Some, None, filter, Option, ◌==◌, nat_le, nat_lt}
+use Rattle.std.specs.Prelude.{◌≡◌, ℕ, max, Bool, true, false, cond, ◌&&◌, ◌||◌, List, [], ◌∷◌, map, take, Some, None, filter, Option, ◌==◌, nat_le, nat_lt}
 use Rattle.terms.specs.declared.Sign.{Sign}
 use Rattle.terms.specs.declared.Sign.TheVariants.{Equal, Different}
 use Rattle.terms.specs.Terms.{Term, name, constant, unary, binary, ternary, height, same, replaced, Literal}

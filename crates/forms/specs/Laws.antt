@@ -1,6 +1,6 @@
 -- What rows, forms and matching are for. Assumes nothing.
 use Rattle.std.specs.Prelude.{◌≡◌, ℕ, ◌^◌, ◌<◌, ◌≤◌, Bool, true, false, List, map, length, Some, None, Option}
-use Rattle.std.specs.List.{AllByRecursion as All}
+use Rattle.std.specs.List.{AllByRecursion}
 use Rattle.sheet.specs.Lawful.{Lawful}
 use Rattle.sheet.specs.Runs.{Configuration, start, step_values, step}
 use Rattle.sheet.specs.System.{System}
@@ -47,7 +47,7 @@ pub record Steps (s : System) (row : Row) (names : List ℕ) (i : Interpretation
 -- the inputs of one step of a sheet
 pub record InputsOf (s : System) (inputs : List ℕ) : Type 0 where
   pub long : length inputs ≡ s.inputs
-  pub small : All (λ v. v < 2 ^ 32) inputs
+  pub small : AllByRecursion (λ v. v < 2 ^ 32) inputs
 
 -- a configuration that a row covers goes, with any inputs, through exactly one branch, and that branch's
 -- candidate covers the next configuration
@@ -83,7 +83,7 @@ SafetyByCases = (s : System) → Lawful s → (form : Row) → RowOf s form → 
 -- row 0 covers every start, and has a term for each reading
 pub record Starts (s : System) : Type 0 where
   pub shaped : RowOf s (first_row s)
-  pub covers : (m : Meaning) → ((f : ℕ) (vs : List ℕ) → m f vs < 2 ^ 32) → (values : List ℕ) → All (λ v. v < 2 ^ 32) values → Covers m (first_row s) (start m s values)
+  pub covers : (m : Meaning) → ((f : ℕ) (vs : List ℕ) → m f vs < 2 ^ 32) → (values : List ℕ) → AllByRecursion (λ v. v < 2 ^ 32) values → Covers m (first_row s) (start m s values)
 
 abbrev pub FirstRowCovers : Type 0
 FirstRowCovers = (s : System) → Starts s
@@ -91,9 +91,9 @@ FirstRowCovers = (s : System) → Starts s
 -- what a form is like: nothing in it is higher than h, it has at most 16 conditions, and their names stand in
 -- its vector
 pub record Formed (h : ℕ) (form : Row) : Type 0 where
-  pub low : All (λ t. height t ≤ h) form.vector
-  pub conditions_low : All (λ c. is_low h c ≡ true) form.conditions
-  pub named : All (λ c. is_named form.vector c ≡ true) form.conditions
+  pub low : AllByRecursion (λ t. height t ≤ h) form.vector
+  pub conditions_low : AllByRecursion (λ c. is_low h c ≡ true) form.conditions
+  pub named : AllByRecursion (λ c. is_named form.vector c ≡ true) form.conditions
   pub few : length form.conditions ≤ 16
 
 -- a candidate has exactly one form, or wants names; the form is so, and has a term for each reading

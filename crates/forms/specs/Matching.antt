@@ -1,7 +1,7 @@
 -- When an older row takes a form: a renaming of its names. Assumes nothing.
-use Rattle.std.specs.Prelude.{◌≡◌, ℕ, ◌<◌, List, map}
-use Rattle.std.specs.List.{AllByRecursion as All}
-use Rattle.terms.specs.Terms.{Term, renamed, Literal, Entails}
+use Rattle.std.specs.Prelude.{◌≡◌, ℕ, ◌<◌, map}
+use Rattle.std.specs.List.{AllByRecursion}
+use Rattle.terms.specs.Terms.{renamed, Literal, Entails}
 use Rattle.forms.specs.Rows.{Row}
 
 abbrev pub renamed_in : (ℕ → ℕ) → Literal → Literal
@@ -13,7 +13,7 @@ pub record Fits (to : ℕ → ℕ) (older form : Row) : Type 0 where
   pub names : (x : ℕ) → to x < 32
   pub bits : older.bits ≡ form.bits
   pub vector : map (renamed to) older.vector ≡ form.vector
-  pub conditions : All (Entails form.conditions) (map (renamed_in to) older.conditions)
+  pub conditions : AllByRecursion (Entails form.conditions) (map (renamed_in to) older.conditions)
 
 -- some renaming fits
 abbrev pub Takes : Row → Row → Type 0

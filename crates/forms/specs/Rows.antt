@@ -1,6 +1,6 @@
 -- Rows: symbolic states over names, and the configurations that they cover. Assumes nothing.
-use Rattle.std.specs.Prelude.{◌≡◌, ℕ, zero, suc, Bool, true, false, cond, ◌&&◌, ◌||◌, List, [], ◌∷◌, map, length, Some, None, Option}
-use Rattle.std.specs.List.{AllByRecursion as All}
+use Rattle.std.specs.Prelude.{◌≡◌, ℕ, zero, suc, Bool, false, cond, ◌||◌, List, [], ◌∷◌, map, length, Some, None, Option}
+use Rattle.std.specs.List.{AllByRecursion}
 use Rattle.sheet.specs.declared.syntax.Reading.{Reading}
 use Rattle.sheet.specs.declared.syntax.Start.{Start}
 use Rattle.sheet.specs.Runs.{Configuration, start_bit}
@@ -17,7 +17,7 @@ pub record Row : Type 0 where
 -- under these values of the names, the row describes the configuration
 pub record CoversBy (i : Interpretation) (row : Row) (c : Configuration) : Type 0 where
   pub bits : row.bits ≡ c.bits
-  pub conditions : All (Holds i) row.conditions
+  pub conditions : AllByRecursion (Holds i) row.conditions
   pub readings : map (eval i) row.vector ≡ c.readings
 
 -- under the meaning m, some values of the names do so

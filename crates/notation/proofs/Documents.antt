@@ -1,12 +1,12 @@
 -- A document with one line more, in a bank with more terms.
-use Rattle.std.proofs.Common.{◌≡◌, ℕ, zero, suc, ◌+◌, ◌<◌, ◌≤◌, List, [], ◌∷◌, ◌++◌, map, length, get_or, sym, refl, ap, ◌∙◌, arith, length-append}
-use Rattle.std.proofs.lemmas.List.{append_assoc, append-nil, map_push, flat_map_more}
+use Rattle.std.proofs.Common.{◌≡◌, ℕ, zero, suc, ◌<◌, ◌≤◌, List, [], ◌∷◌, ◌++◌, length, sym, refl, ap, ◌∙◌, arith, length-append}
+use Rattle.std.proofs.lemmas.List.{append_assoc, map_push, flat_map_more}
 use Rattle.terms.specs.declared.TermRecord.{TermRecord}
 use Rattle.terms.specs.declared.Condition.{Condition}
 use Rattle.terms.specs.declared.Sign.{Sign}
 use Rattle.terms.specs.Terms.{Term, Literal}
 use Rattle.terms.specs.Bank.{term_at, literal_of, Extends}
-use Rattle.closure.specs.Labels.{no_condition, literals}
+use Rattle.closure.specs.Labels.{literals}
 use Rattle.notation.specs.Written.{line, document, Between}
 
 abbrev literal : Sign → Term → Term → Literal

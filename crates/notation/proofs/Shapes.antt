@@ -1,7 +1,7 @@
 -- A text that begins with the parts of a term or of a line.
-use Rattle.std.proofs.Common.{◌≡◌, ℕ, ◌<◌, ◌≤◌, List, [], ◌∷◌, ◌++◌, decimal, sym, refl, ap, ◌∙◌}
+use Rattle.std.proofs.Common.{◌≡◌, ℕ, List, [], ◌∷◌, ◌++◌, decimal, refl}
 use Rattle.std.proofs.lemmas.List.{append_assoc}
-use Rattle.terms.specs.Terms.{Term, name, constant, unary, binary, ternary}
+use Rattle.terms.specs.Terms.{Term, unary, binary, ternary}
 use Rattle.terms.specs.declared.Sign.{Sign}
 use Rattle.notation.specs.Written.{written, sign_text}
 

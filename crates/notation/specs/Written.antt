@@ -1,10 +1,9 @@
 -- The written form of terms and conditions: `xN` a name, `sN` a constant, `sN(a,b,c)` a symbol over terms, and a line
 -- for each condition, `TERM = TERM` or `TERM # TERM`. Assumes nothing.
-use Rattle.std.specs.Prelude.{◌≡◌, ℕ, ◌<◌, ◌≤◌, List, [], ◌∷◌, ◌++◌, length, codes, decimal, slice_index_or}
+use Rattle.std.specs.Prelude.{◌≡◌, ℕ, ◌<◌, List, [], ◌∷◌, ◌++◌, length, codes, decimal, slice_index_or}
 use Rattle.std.specs.List.{flat_map}
 use Rattle.terms.specs.declared.Sign.{Sign}
 use Rattle.terms.specs.declared.Sign.TheVariants.{Equal, Different}
-use Rattle.terms.specs.declared.TermRecord.{TermRecord}
 use Rattle.terms.specs.declared.Condition.{Condition}
 use Rattle.closure.specs.Labels.{no_condition}
 use Rattle.terms.specs.Terms.{Term, name, constant, unary, binary, ternary, Literal, Sat}

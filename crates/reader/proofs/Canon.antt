@@ -1,5 +1,5 @@
 -- A lawful sheet that is written out letter after letter stands in a lawful order, and describes itself.
-use Rattle.std.proofs.Common.{◌≡◌, ℕ, zero, suc, ◌+◌, ◌<◌, ◌≤◌, Bool, true, false, not, ◌&&◌, ltb, List, [], ◌∷◌, ◌++◌, map, length, get_or, set, replicate, is_some, Some, None, Option, sym, refl, ap, ◌∙◌, subst, ap₂, append_assoc, add-zero, zero-add, arith, length-append}
+use Rattle.std.proofs.Common.{◌≡◌, ℕ, zero, suc, ◌+◌, ◌<◌, Bool, true, not, ◌&&◌, ltb, List, [], ◌∷◌, ◌++◌, map, length, get_or, set, replicate, is_some, Some, None, Option, sym, refl, ap, ◌∙◌, subst, ap₂, append_assoc, add-zero, zero-add, arith, length-append}
 use lib.ListN.{length-map}
 use Rattle.std.proofs.lemmas.List.{append-nil, get_or_at, set_at, map-append}
 use Rattle.sheet.specs.declared.syntax.Bit.{Bit}
@@ -12,12 +12,11 @@ use Rattle.sheet.specs.declared.syntax.Start.{Start}
 use Rattle.sheet.specs.declared.syntax.Term.{Term}
 use Rattle.sheet.specs.Format.{kind_of}
 use Rattle.sheet.specs.Lawful.{each_at, given, Lawful}
-use Rattle.sheet.specs.Rules.{names, keeps, obeys_at, count, fresh, args_below}
-use Rattle.sheet.specs.System.{System, nothing, add, gather, describe, no_bit, no_reading}
-use Rattle.sheet.proofs.Eaches.{left_true, right_true, each_at-index}
+use Rattle.sheet.specs.Rules.{names, keeps, obeys_at, count, fresh}
+use Rattle.sheet.specs.System.{System, nothing, add, gather, no_bit, no_reading}
+use Rattle.sheet.proofs.Eaches.{left_true, each_at-index}
 use Rattle.reader.specs.Canonical.{bit_record, symbol_record, reading_record, term_record, question_record, claim_record, formula_record, choice_record, given_record, next_bit_records, next_reading_records, records_of, written_out}
 use Rattle.reader.specs.Law.{InOrder, WrittenAs}
-use Rattle.reader.specs.Outcome.{complete}
 
 gather_append : (s : System) (xs ys : List Record) → gather s (xs ++ ys) ≡ gather (gather s xs) ys
 gather_append s [] ys = refl

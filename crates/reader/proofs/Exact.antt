@@ -1,5 +1,5 @@
 -- The same bytes are not the records of two sheets, nor of a sheet where a fault is met.
-use Rattle.std.proofs.Common.{◌≡◌, ℕ, ◌+◌, ◌<◌, ◌≤◌, Bool, true, false, ◌⊎◌, List, [], ◌∷◌, ◌++◌, length, Some, None, Option, sym, refl, ap, ◌∙◌, subst, inl, inr, append_assoc, arith, length-append}
+use Rattle.std.proofs.Common.{◌≡◌, ℕ, Bool, true, false, List, [], ◌∷◌, ◌++◌, length, Some, Option, sym, refl, ap, ◌∙◌, subst, inl, inr, append_assoc, arith, length-append}
 use Rattle.fault.specs.declared.Place.{Place}
 use Rattle.fault.specs.declared.SheetFault.{SheetFault}
 use Rattle.fault.specs.declared.SheetFault.TheVariants.{Truncated, UnknownLetter, BadBody, TooMany, Repeated, Incomplete, TrailingBytes}
@@ -7,15 +7,14 @@ use Rattle.sheet.specs.declared.kind.Kind.{Kind}
 use Rattle.sheet.specs.declared.syntax.Record.{Record}
 use Rattle.sheet.specs.Format.{letter, body_length, kind_of, body_of, written, written_all}
 use Rattle.sheet.specs.Lawful.{Lawful}
-use Rattle.sheet.specs.Rules.{room, obeys, fresh, keeps}
-use Rattle.sheet.specs.System.{System, nothing, add, gather, describe}
-use Rattle.reader.specs.Decode.{decoded}
-use Rattle.reader.specs.Law.{InOrder, WrittenAs, Describe, ReadAs}
+use Rattle.sheet.specs.Rules.{room, obeys, fresh}
+use Rattle.sheet.specs.System.{System, nothing, add, gather}
+use Rattle.reader.specs.Law.{WrittenAs, Describe, ReadAs}
 use Rattle.reader.specs.Canonical.{written_out}
 use Rattle.reader.specs.Drafts.{draft_of}
 use Rattle.reader.specs.Progress.{Ended}
 use Rattle.reader.specs.declared.draft.Draft.{Draft}
-use Rattle.reader.specs.Outcome.{Allowed, AllAllowed, complete, Cut, Unknown, Full, Unlawful, Again, Unfinished, Overlong, Stops, FaultyAt, Accepted}
+use Rattle.reader.specs.Outcome.{Allowed, AllAllowed, complete, Stops, FaultyAt, Accepted}
 use Rattle.reader.proofs.Canon.{written_out_describes}
 use Rattle.reader.proofs.Decoding.{decode_finds, letter-same, length-body_of}
 use Rattle.reader.proofs.Judgement.{obeys-keeps}

@@ -1,5 +1,5 @@
 -- The same bytes have one first fault.
-use Rattle.std.proofs.Common.{◌≡◌, ℕ, ◌+◌, ◌<◌, ◌≤◌, Bool, true, false, ◌⊎◌, List, [], ◌∷◌, ◌++◌, length, sym, refl, ap, ◌∙◌, subst, ap₂, inl, inr, append_assoc, arith, length-append}
+use Rattle.std.proofs.Common.{◌≡◌, ℕ, ◌≤◌, Bool, true, false, ◌⊎◌, List, [], ◌∷◌, ◌++◌, length, sym, refl, ap, ◌∙◌, subst, ap₂, inl, inr, append_assoc, arith, length-append}
 use Rattle.fault.specs.declared.Failure.{Failure}
 use Rattle.fault.specs.declared.Fault.{Fault}
 use Rattle.fault.specs.declared.Place.{Place}
@@ -9,8 +9,8 @@ use Rattle.sheet.specs.declared.kind.Kind.{Kind}
 use Rattle.sheet.specs.declared.syntax.Record.{Record}
 use Rattle.sheet.specs.Format.{letter, body_length, kind_of, body_of, written, written_all}
 use Rattle.sheet.specs.Rules.{room}
-use Rattle.sheet.specs.System.{System, nothing, add, gather, describe}
-use Rattle.reader.specs.Outcome.{AllAllowed, complete, Cut, Unknown, Full, Unlawful, Again, Unfinished, Overlong, Stops, FaultyAt, Faulty, Failed}
+use Rattle.sheet.specs.System.{System, nothing, add, gather}
+use Rattle.reader.specs.Outcome.{AllAllowed, Cut, Unknown, Full, Unlawful, Again, Unfinished, Overlong, Stops, FaultyAt, Faulty, Failed}
 use Rattle.reader.specs.Law.{Refused, RefusedBy}
 use Rattle.reader.proofs.Decoding.{letter-same, length-body_of}
 use Rattle.reader.proofs.Exact.{none_such, tail_same, head_same, nil-cons, not_end, body_same, records_same, no_stop_at_record, faulty_refused}

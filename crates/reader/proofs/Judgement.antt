@@ -7,7 +7,7 @@ use Rattle.sheet.specs.declared.syntax.Record.{Record}
 use Rattle.reader.specs.Decode.{decoded, judged, judge}
 use Rattle.sheet.specs.Format.{letter, body_length, kind_of, written}
 use Rattle.reader.specs.Outcome.{Allowed}
-use Rattle.sheet.specs.Rules.{room, obeys, fresh, keeps, names}
+use Rattle.sheet.specs.Rules.{room, obeys, fresh, keeps}
 use Rattle.sheet.specs.System.{System}
 use Rattle.reader.proofs.Decoding.{decode_writes, decode_finds, letter-same}
 

@@ -1,9 +1,8 @@
 -- Records that are allowed one after another are those of a lawful sheet in a lawful order, and conversely.
-use Rattle.std.proofs.Common.{◌≡◌, ℕ, ◌+◌, ◌<◌, ◌≤◌, Bool, true, false, ◌&&◌, ltb, leb, List, [], ◌∷◌, ◌++◌, length, get_or, set, Some, None, Option, sym, refl, ap, ◌∙◌, subst, zero-add, arith, length-set}
+use Rattle.std.proofs.Common.{◌≡◌, ℕ, ◌<◌, Bool, true, ◌&&◌, ltb, leb, List, [], ◌∷◌, ◌++◌, length, get_or, Some, None, Option, sym, refl, ap, ◌∙◌, subst, zero-add, arith, length-set}
 use Rattle.std.proofs.lemmas.List.{length_push, get_or_push, get_or-set_same}
 use Rattle.std.proofs.lemmas.Bool.Decides.{nat_tests}
 use Rattle.sheet.specs.declared.syntax.Choice.{Choice}
-use Rattle.sheet.specs.declared.syntax.Equation.{Equation}
 use Rattle.sheet.specs.declared.syntax.Formula.{Formula}
 use Rattle.sheet.specs.declared.syntax.Bit.{Bit}
 use Rattle.sheet.specs.declared.syntax.Reading.{Reading}
@@ -11,9 +10,9 @@ use Rattle.sheet.specs.declared.syntax.Record.{Record}
 use Rattle.sheet.specs.declared.syntax.Start.{Start}
 use Rattle.sheet.specs.declared.syntax.Term.{Term}
 use Rattle.sheet.specs.Format.{kind_of}
-use Rattle.sheet.specs.Lawful.{each_at, given, Few, LawfulIn, Lawful}
-use Rattle.sheet.specs.Rules.{names, keeps, obeys_at, obeys, count, room, fresh}
-use Rattle.sheet.specs.System.{System, nothing, add, gather, describe, no_bit, no_reading}
+use Rattle.sheet.specs.Lawful.{each_at, given, Lawful}
+use Rattle.sheet.specs.Rules.{names, keeps, obeys_at, count, room, fresh}
+use Rattle.sheet.specs.System.{System, nothing, add, gather, no_bit, no_reading}
 use Rattle.sheet.proofs.Eaches.{both_true, left_true, right_true, each_at-index}
 use Rattle.sheet.proofs.Extending.{Prefix, Extends, extends_refl, extends_trans, prefix_length, prefix-get_or, keeps_same}
 use Rattle.sheet.proofs.Lawfulness.{extends_add, lawful_more}

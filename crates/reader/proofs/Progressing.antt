@@ -1,5 +1,5 @@
 -- One record more, or the first fault.
-use Rattle.std.proofs.Common.{◌≡◌, ℕ, ◌+◌, ◌-◌, ◌<◌, ◌≤◌, Bool, true, false, ◌⊎◌, List, [], ◌∷◌, ◌++◌, length, get_or, take, drop, Result, sym, refl, ap, ◌∙◌, subst, inl, inr, append_assoc, arith, length-append, length-drop}
+use Rattle.std.proofs.Common.{◌≡◌, ℕ, ◌+◌, ◌-◌, ◌<◌, ◌≤◌, true, false, List, [], ◌∷◌, ◌++◌, length, get_or, take, drop, Result, sym, refl, ap, ◌∙◌, subst, inl, inr, append_assoc, arith, length-append, length-drop}
 use Rattle.std.proofs.lemmas.List.{drop_more, drop_all, drop-drop, take-append-drop, append-nil, length_push, length-take-le}
 use Rattle.fault.specs.declared.Place.{Place}
 use Rattle.fault.specs.declared.SheetFault.{SheetFault}
@@ -7,13 +7,11 @@ use Rattle.fault.specs.declared.SheetFault.TheVariants.{Truncated, UnknownLetter
 use Rattle.sheet.specs.declared.kind.Kind.{Kind}
 use Rattle.reader.specs.declared.draft.Draft.{Draft}
 use Rattle.sheet.specs.declared.syntax.Record.{Record}
-use Rattle.sheet.specs.Format.{letter, body_length, body_of, kind_of, written, written_all}
+use Rattle.sheet.specs.Format.{letter, body_length, written, written_all}
 use Rattle.reader.specs.Outcome.{Allowed, AllAllowed, FaultyAt, Stops, complete}
-use Rattle.reader.specs.Progress.{KindAt, CutAt, NoKindAt, ReadTo, Ended}
+use Rattle.reader.specs.Progress.{KindAt, NoKindAt, ReadTo, Ended}
 use Rattle.sheet.specs.System.{System, nothing, add, gather, describe}
 use Rattle.reader.specs.Drafts.{draft_of, Added}
-use Rattle.sheet.specs.Stored.{Informed}
-use Rattle.reader.proofs.Decoding.{length-body_of}
 use Rattle.reader.proofs.Judgement.{Good, Refused, Says, kind_is, judge_says, obeys-keeps}
 use Rattle.sheet.specs.Rules.{keeps}
 use Rattle.reader.specs.Decode.{judge}

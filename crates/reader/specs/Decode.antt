@@ -4,7 +4,6 @@ use Rattle.std.specs.Prelude.{ℕ, Bool, true, false, cond, ◌&&◌, List, Some
 use Rattle.sheet.specs.declared.syntax.Args.{Args}
 use Rattle.sheet.specs.declared.syntax.Args.TheVariants.{Zero, One, Two, Three}
 use Rattle.sheet.specs.declared.syntax.Choice.{Choice}
-use Rattle.sheet.specs.declared.syntax.Equation.{Equation}
 use Rattle.sheet.specs.declared.syntax.Formula.{Formula}
 use Rattle.sheet.specs.declared.kind.Kind.{Kind}
 use Rattle.sheet.specs.declared.syntax.Record.{Record}

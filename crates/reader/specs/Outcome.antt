@@ -1,14 +1,11 @@
 -- What a list of bytes comes to: the records before the first fault, and the fault; or the records of a
 -- whole sheet. Assumes nothing.
 use Rattle.std.specs.Prelude.{◌≡◌, ℕ, ◌<◌, Bool, true, false, ◌&&◌, ◌⊎◌, List, [], ◌∷◌, ◌++◌, length, is_some, ◌≢◌}
-use Rattle.fault.specs.declared.BenchFault.{BenchFault}
 use Rattle.fault.specs.declared.Failure.{Failure}
 use Rattle.fault.specs.declared.Fault.{Fault}
-use Rattle.fault.specs.declared.ModelFault.{ModelFault}
 use Rattle.fault.specs.declared.Place.{Place}
 use Rattle.fault.specs.declared.SheetFault.{SheetFault}
 use Rattle.fault.specs.declared.SheetFault.TheVariants.{Truncated, UnknownLetter, BadBody, TooMany, Repeated, Incomplete, TrailingBytes}
-use Rattle.fault.specs.declared.TableFault.{TableFault}
 use Rattle.sheet.specs.declared.kind.Kind.{Kind}
 use Rattle.sheet.specs.declared.syntax.Record.{Record}
 use Rattle.sheet.specs.Format.{letter, body_length, kind_of, written, written_all}

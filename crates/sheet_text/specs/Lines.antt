@@ -1,5 +1,5 @@
 -- The lines of a listing. Assumes nothing.
-use Rattle.std.specs.Prelude.{◌≡◌, ℕ, suc, ◌+◌, ◌⊎◌, List, [], ◌∷◌, ◌++◌, length, codes, decimal}
+use Rattle.std.specs.Prelude.{◌≡◌, ℕ, ◌+◌, ◌⊎◌, List, [], ◌∷◌, ◌++◌, length, codes, decimal}
 use Rattle.std.proofs.Math.Utf8.{encode}
 use Rattle.fault.specs.declared.Fault.{Fault}
 use Rattle.fault.specs.Values.{text_of}

@@ -1,5 +1,5 @@
 -- Interning by nodes is interning by terms: in a bank, a node is found exactly where its term is.
-use Rattle.std.proofs.Common.{◌≡◌, ℕ, zero, suc, ◌+◌, ◌<◌, ◌≤◌, min, ◌⊎◌, List, length, get_or, set, Ok, Err, Result, sym, refl, ap, ◌∙◌, subst, inl, inr, ⊎_elim, arith, length-set}
+use Rattle.std.proofs.Common.{◌≡◌, ℕ, suc, ◌+◌, ◌<◌, ◌≤◌, min, ◌⊎◌, List, length, get_or, set, Ok, Err, Result, sym, refl, ap, ◌∙◌, subst, inl, inr, ⊎_elim, arith, length-set}
 use Rattle.std.proofs.lemmas.List.{get_or-set_same, get_or-set_other}
 use Rattle.std.proofs.lemmas.Bool.{cases_lt}
 use Rattle.fault.specs.declared.TableFault.{TableFault}
@@ -7,7 +7,7 @@ use Rattle.terms.specs.declared.Node.{Node}
 use Rattle.terms.specs.declared.Node.TheVariants.{Name, Constant, Unary, Binary, Ternary}
 use Rattle.terms.specs.declared.TermRecord.{TermRecord}
 use Rattle.terms.specs.Terms.{Term, height, name_set}
-use Rattle.terms.specs.Bank.{Fit, node_at, no_record, term_of, term_at, Ordered, Absent, Lacks, Bank, Stays, Extends, room, Interned, Filed, record_of, height_of, names_of}
+use Rattle.terms.specs.Bank.{Fit, node_at, no_record, term_of, term_at, Ordered, Absent, Lacks, Bank, Stays, Extends, Interned, Filed, record_of, height_of, names_of}
 use Rattle.terms.proofs.Standing.{term_of-same, term_at-ordered, term_stays, height-small, height-term_of, name_set-term_of, height_of-same, names_of_same, height_of-small}
 use Rattle.terms.proofs.Same.{node_from_term}
 

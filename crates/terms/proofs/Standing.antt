@@ -1,10 +1,9 @@
 -- Which terms places stand for: a place's term is made of its arguments' terms, and depends on nothing behind it.
-use Rattle.std.proofs.Common.{◌≡◌, ℕ, zero, suc, ◌+◌, ◌<◌, ◌≤◌, max, List, length, get_or, sym, refl, ap, ◌∙◌, arith}
-use lib.Bits.{bit_or}
+use Rattle.std.proofs.Common.{◌≡◌, ℕ, zero, suc, ◌<◌, ◌≤◌, List, get_or, refl, ap, ◌∙◌, arith}
 use Rattle.terms.specs.declared.Node.{Node}
 use Rattle.terms.specs.declared.Node.TheVariants.{Name, Constant, Unary, Binary, Ternary}
 use Rattle.terms.specs.declared.TermRecord.{TermRecord}
-use Rattle.terms.specs.Terms.{Term, name, constant, unary, binary, ternary, height, name_set}
+use Rattle.terms.specs.Terms.{Term, unary, height, name_set}
 use Rattle.terms.specs.Bank.{Fit, node_at, no_record, term_of, unfolded, term_at, Ordered, height_of, names_of}
 
 pub term_of-same : (at at' : ℕ → Term) (n : ℕ) (node : Node) → Fit n node → ((a : ℕ) → a < n → at a ≡ at' a) → term_of at node ≡ term_of at' node

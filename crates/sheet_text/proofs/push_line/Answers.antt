@@ -5,5 +5,5 @@ use Rattle.sheet_text.proofs.push_line.Goals as goal
 
 pub returns : goal.returns
 returns c =
-    let front = c.as_str.ensures.value ∙ c.in-ok-front.ensures.ok in
-    glued (string_bytes c.args.text.now) _ (numbers_of c.args.body.now) _ (string_bytes c.push_str.new.self) (string_bytes c.push_numbers.new.text) (string_bytes c.push_str-2.new.self) (c.in-ok-push_str.ensures.bytes ∙ ap (λ l. string_bytes c.args.text.now ++ l) front) c.in-ok-push_numbers.ensures c.in-ok-push_str-2.ensures.bytes
+    let front = c.as_str.ensures.value ∙ c.in_ok-front.ensures.ok in
+    glued (string_bytes c.args.text.now) _ (numbers_of c.args.body.now) _ (string_bytes c.push_str.new.self) (string_bytes c.push_numbers.new.text) (string_bytes c.push_str-2.new.self) (c.in_ok-push_str.ensures.bytes ∙ ap (λ l. string_bytes c.args.text.now ++ l) front) c.in_ok-push_numbers.ensures c.in_ok-push_str-2.ensures.bytes

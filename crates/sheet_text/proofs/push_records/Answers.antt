@@ -1,4 +1,4 @@
-use Rattle.std.proofs.Common.{◌≡◌, ◌<◌, ◌≤◌, false, length, get_or, vec_items, string_bytes, ap, ◌∙◌, arith}
+use Rattle.std.proofs.Common.{◌<◌, ◌≤◌, false, length, get_or, vec_items, string_bytes, ap, ◌∙◌, arith}
 use Rattle.sheet.specs.Format.{kind_of}
 use Rattle.sheet.specs.declared.syntax.Record.{Record}
 use Rattle.sheet_text.proofs.Places.{next_whole, listing_more, listing_all}
@@ -12,7 +12,7 @@ push_record-requires c =
 pub loop-number-preserved : goal.loop-number-preserved
 loop-number-preserved c =
     let here : c.loop-number.number < length (vec_items c.args.records.now) = omega (arith, c.loop-number-test.true, ap length c.deref-record-items.ensures.value) in
-    listing_more c.args.bytes.now (vec_items c.args.records.now) (string_bytes c.args.text.now) (string_bytes c.loop-number.text) c.loop-number.number c.loop-number.place c.kind.result (Record.Bit false) c.loop-number.invariant here (c.kind.ensures ∙ ap (λ l. kind_of (get_or l c.loop-number.number (Record.Bit false))) c.deref-record-items.ensures.value) c.in-ok-place.place (string_bytes c.push_record.new.text) c.in-ok-place.ensures.0 c.in-ok-place.ensures.1
+    listing_more c.args.bytes.now (vec_items c.args.records.now) (string_bytes c.args.text.now) (string_bytes c.loop-number.text) c.loop-number.number c.loop-number.place c.kind.result (Record.Bit false) c.loop-number.invariant here (c.kind.ensures ∙ ap (λ l. kind_of (get_or l c.loop-number.number (Record.Bit false))) c.deref-record-items.ensures.value) c.in_ok-place.place (string_bytes c.push_record.new.text) c.in_ok-place.ensures.0 c.in_ok-place.ensures.1
 
 pub returns : goal.returns
 returns c =

@@ -6,6 +6,6 @@ use Rattle.sheet_text.proofs.whole_listing.Goals as goal
 
 pub returns : goal.returns
 returns c =
-    let last = c.as_str.ensures.value ∙ c.in-ok-last.ensures.ok in
+    let last = c.as_str.ensures.value ∙ c.in_ok-last.ensures.ok in
     let items = vec_items c.args.records.now in
-    ok_glued (lines_of 0 0 items) (string_bytes c.push_records.new.text) (string_bytes c.push_line.new.text) (string_bytes c.push_str.new.self) c.len-number.result c.in-ok-place.place (length items) (length (written_all items)) (c.in-ok-place.ensures.1 ∙ ap (λ l. l ++ lines_of 0 0 items) c.new-text.ensures.bytes) c.in-ok-push_line.ensures (c.in-ok-push_str.ensures.bytes ∙ ap (λ l. string_bytes c.push_line.new.text ++ l) last) (c.len-number.ensures ∙ c.args.records.now.ok.0) c.in-ok-place.ensures.0
+    ok_glued (lines_of 0 0 items) (string_bytes c.push_records.new.text) (string_bytes c.push_line.new.text) (string_bytes c.push_str.new.self) c.len-number.result c.in_ok-place.place (length items) (length (written_all items)) (c.in_ok-place.ensures.1 ∙ ap (λ l. l ++ lines_of 0 0 items) c.new-text.ensures.bytes) c.in_ok-push_line.ensures (c.in_ok-push_str.ensures.bytes ∙ ap (λ l. string_bytes c.push_line.new.text ++ l) last) (c.len-number.ensures ∙ c.args.records.now.ok.0) c.in_ok-place.ensures.0

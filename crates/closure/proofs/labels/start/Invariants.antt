@@ -1,4 +1,4 @@
-use Rattle.std.proofs.Common.{◌≡◌, ℕ, ◌<◌, ◌≤◌}
+use Rattle.std.proofs.Common.{◌≡◌, ℕ, ◌<◌}
 use Rattle.closure.specs.Labels.{label}
 use Rattle.closure.specs.Working.{Spare}
 use Rattle.closure.proofs.labels.start.Given as goal

@@ -1,4 +1,4 @@
-use Rattle.std.proofs.Common.{◌≡◌, ◌+◌, true, ◌∷◌, sym, refl, ap, ◌∙◌, subst, arith}
+use Rattle.std.proofs.Common.{◌≡◌, ◌+◌, true, ◌∷◌, sym, ◌∙◌, subst, arith}
 use Rattle.queue.specs.Entries.{entries, room}
 use Rattle.closure.specs.Working.{Joined}
 use Rattle.closure.specs.Pending.{Due}

@@ -1,5 +1,4 @@
-use Rattle.std.proofs.Common.{◌+◌, arith}
-use Rattle.closure.specs.Working.{Grown}
+use Rattle.std.proofs.Common.{arith}
 use Rattle.closure.proofs.Merging.{grown_more}
 use Rattle.closure.proofs.Visiting.{joins_few}
 use Rattle.closure.proofs.table.step.Goals as goal

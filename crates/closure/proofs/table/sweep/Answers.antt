@@ -1,5 +1,4 @@
 use Rattle.std.proofs.Common.{◌≡◌, ◌+◌, replicate, None, refl, ◌∙◌, arith}
-use Rattle.closure.specs.Working.{Grown}
 use Rattle.closure.proofs.Merging.{grown_none, grown_more}
 use Rattle.closure.proofs.Chaining.{chains_none, swept_none}
 use Rattle.closure.proofs.Visiting.{joins_few}

@@ -1,4 +1,3 @@
-use Rattle.std.proofs.Common.{◌≡◌, length}
 use Rattle.sheet.specs.View.{sheet_of}
 use Rattle.rows.specs.Records.{row_in}
 use Rattle.forms.proofs.Shrinking.{sizes}

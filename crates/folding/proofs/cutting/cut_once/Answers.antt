@@ -1,10 +1,10 @@
-use Rattle.std.proofs.Common.{sym, refl, ◌∙◌, inl, inr}
+use Rattle.std.proofs.Common.{refl, inl}
 use Rattle.std.proofs.lemmas.Result.{MatchResult-weaker}
 use Rattle.sheet.specs.View.{sheet_of}
 use Rattle.terms.specs.Bank.{term_at}
 use Rattle.terms.proofs.Filing.{extends_none}
 use Rattle.rows.specs.Records.{row_in}
-use Rattle.folding.proofs.Cuts.{free_is, free_small, cut_made, cut_refused}
+use Rattle.folding.proofs.Cuts.{free_is, cut_made, cut_refused}
 use Rattle.folding.proofs.cutting.cut_once.Goals as goal
 
 pub returns-in-None : goal.returns-in-None

@@ -1,4 +1,4 @@
-use Rattle.std.proofs.Common.{◌<◌, ◌≤◌, get_or, ap, ◌∙◌, subst, arith}
+use Rattle.std.proofs.Common.{◌<◌, ◌≤◌, get_or, ◌∙◌, subst}
 use Rattle.terms.specs.Terms.{height}
 use Rattle.terms.specs.Bank.{term_at}
 use Rattle.folding.proofs.Descending.{first_here, first_on, first_none}

@@ -1,4 +1,4 @@
-use Rattle.std.proofs.Common.{◌≡◌, take, sym, subst, arith}
+use Rattle.std.proofs.Common.{take, subst, arith}
 use Rattle.sheet.specs.View.{sheet_of}
 use Rattle.terms.proofs.Filing.{extends_none}
 use Rattle.folding.specs.Rewriting.{NoRoom, PlacesChanged}

@@ -1,4 +1,4 @@
-use Rattle.folding.proofs.Descending.{Step, unary_step, binary_first, binary_second, ternary_first, ternary_second, ternary_third}
+use Rattle.folding.proofs.Descending.{unary_step, binary_first, binary_second, ternary_first, ternary_second, ternary_third}
 use Rattle.folding.proofs.cutting.step_down.Goals as goal
 
 pub returns-in-Unary : goal.returns-in-Unary

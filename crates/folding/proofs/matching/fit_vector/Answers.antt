@@ -4,7 +4,7 @@ use Rattle.std.proofs.lemmas.Bool.{true≢false}
 use Rattle.sheet.specs.View.{sheet_of}
 use Rattle.folding.proofs.Forcing.{vectors_same, older_below, form_below, bits_apart, fit_found}
 use Rattle.folding.proofs.matching.fit_vector.Goals as goal
-use Rattle.std.proofs.lemmas.Bool.Decides.{Decides-eqb}
+use Rattle.std.specs.Cmp.{booleans_Decides}
 
 different : (xs ys : List Bool) (x r : Bool) → Decides x (xs ≡ ys) → r ≡ not x → r ≡ true → xs ≡ ys → ⊥
 different xs ys x r decides is yes' same = true≢false (sym yes' ∙ (is ∙ ap not (decides.1 same)))
@@ -18,9 +18,8 @@ returns-then-ne c =
     let older = c.args.older.now in
     let form = c.args.form.now in
     let bits = c.bits_of-bits.result in
-    let h = c.ne.ensures in
     bits_apart (sheet_of c.args.sheet.now) c.args.bank.now older form bits c.bits_of-bits.ensures
-    (different (take bits older.bits) (take bits form.bits) h.0 c.ne.result (slice_eq-Decides Decides-eqb (take bits older.bits) (take bits form.bits) h.0 h.1) h.2 c.if-ne.true)
+    (different (take bits older.bits) (take bits form.bits) _ c.ne.result (slice_eq-Decides booleans_Decides (take bits older.bits) (take bits form.bits) _ refl) c.ne.ensures c.if-ne.true)
 
 pub match_terms-requires : goal.match_terms-requires
 match_terms-requires c =
@@ -43,7 +42,6 @@ returns c =
     let older = c.args.older.now in
     let form = c.args.form.now in
     let bits = c.bits_of-bits.result in
-    let h = c.ne.ensures in
     fit_found (sheet_of c.args.sheet.now) c.args.bank.now c.args.terms c.readings_of-readings.result older form c.readings_of-readings.ensures c.requires.older c.requires.form bits c.bits_of-bits.ensures
-    (alike (take bits older.bits) (take bits form.bits) h.0 c.ne.result (slice_eq-Decides Decides-eqb (take bits older.bits) (take bits form.bits) h.0 h.1) h.2 c.if-ne.false)
+    (alike (take bits older.bits) (take bits form.bits) _ c.ne.result (slice_eq-Decides booleans_Decides (take bits older.bits) (take bits form.bits) _ refl) c.ne.ensures c.if-ne.false)
     c.match_terms.result c.match_terms.ensures

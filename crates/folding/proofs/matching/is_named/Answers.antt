@@ -1,4 +1,4 @@
-use Rattle.std.proofs.Common.{eqb, get_or, sym, bit_or}
+use Rattle.std.proofs.Common.{eqb, get_or, bit_or}
 use Rattle.std.proofs.lemmas.Bool.{eq-eqb, ne_eqb}
 use Rattle.terms.specs.Bank.{no_record, term_at}
 use Rattle.forms.specs.Rows.{occurs_in_terms}

@@ -1,4 +1,4 @@
-use Rattle.std.proofs.Common.{◌≡◌, ◌+◌, true, false, length, get_or, subst, arith}
+use Rattle.std.proofs.Common.{◌≡◌, ◌+◌, true, false, length, subst, arith}
 use Rattle.folding.specs.Pairing.{Narrowed, RenamesEach}
 use Rattle.folding.proofs.Narrowing.{narrowed_name, narrowed_unary, narrowed_binary, narrowed_ternary, narrowed_each, narrowed_early, narrowed_pictured, pictured_later, pictured_more}
 use Rattle.folding.proofs.pairing.+pair_all_pair_nodes_pair_places.Goals as goal

@@ -1,4 +1,4 @@
-use Rattle.std.proofs.Common.{refl, arith}
+use Rattle.std.proofs.Common.{arith}
 use Rattle.folding.specs.Matched.{sends}
 use Rattle.folding.proofs.Narrowing.{pictured_none, respects_none}
 use Rattle.folding.proofs.pairing.match_terms.Goals as goal

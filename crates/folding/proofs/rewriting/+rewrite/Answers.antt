@@ -1,4 +1,4 @@
-use Rattle.std.proofs.Common.{◌≡◌, ℕ, ◌<◌, ◌≤◌, List, [], ◌∷◌, sym, refl, ap, ◌∙◌, subst, arith}
+use Rattle.std.proofs.Common.{◌≡◌, ℕ, ◌<◌, ◌≤◌, List, [], ◌∷◌, sym, ap, ◌∙◌, subst, arith}
 use Rattle.terms.specs.declared.TermRecord.{TermRecord}
 use Rattle.terms.specs.Terms.{Term, unary, binary, ternary}
 use Rattle.terms.specs.declared.Node.{Node}
@@ -47,8 +47,8 @@ binary_same f x y = cc
 ternary_same : (f : ℕ) {a b c d e h : Term} → a ≡ d → b ≡ e → c ≡ h → ternary f a b c ≡ ternary f d e h
 ternary_same f x y z = cc
 
-pub returns-in-err-a : goal.returns-in-err-a
-returns-in-err-a t c =
+pub returns-in_err-a-in-Unary : goal.returns-in_err-a-in-Unary
+returns-in_err-a-in-Unary t c =
     let rs = c.args.bank.now in
     let n = c.args.count.now.terms in
     let ch = c.args.change.now in
@@ -60,12 +60,12 @@ returns-in-err-a t c =
     let is = stopped_none rs n c.requires.bank p c.requires.inside ch c.requires.suits (sym c.in_default-stop.ensures) ∙ ap (term_of (arg rs ch)) c.in-Unary.is in
     let has = unary_has rs ch p f a is in
     let w₀ = walked_none rs n ch c.requires.suits c.requires.bank c.args.known.now c.requires.known in
-    broken_off rs n ch p (a ∷ []) [] has c.rewrite.new.bank c.rewrite.new.count.terms c.in-err-a.field-0.0
-    (walked_broken rs n ch c.requires.suits [] rs n c.args.known.now w₀ a a_in c.rewrite.new.bank c.rewrite.new.count.terms c.rewrite.new.known c.in-err-a.field-0.0 c.in-err-a.ensures)
-    c.rewrite.new.known c.from-residual.result c.from-residual.ensures.1
+    broken_off rs n ch p (a ∷ []) [] has c.rewrite.new.bank c.rewrite.new.count.terms c.in_err-a-in-Unary.field-0.0
+    (walked_broken rs n ch c.requires.suits [] rs n c.args.known.now w₀ a a_in c.rewrite.new.bank c.rewrite.new.count.terms c.rewrite.new.known c.in_err-a-in-Unary.field-0.0 c.in_err-a-in-Unary.ensures)
+    c.rewrite.new.known c.from_residual.result c.from_residual.ensures.1
 
-pub returns-in-ok-a : goal.returns-in-ok-a
-returns-in-ok-a t c =
+pub returns-in_ok-a-in-Unary : goal.returns-in_ok-a-in-Unary
+returns-in_ok-a-in-Unary t c =
     let rs = c.args.bank.now in
     let n = c.args.count.now.terms in
     let ch = c.args.change.now in
@@ -77,12 +77,12 @@ returns-in-ok-a t c =
     let is = stopped_none rs n c.requires.bank p c.requires.inside ch c.requires.suits (sym c.in_default-stop.ensures) ∙ ap (term_of (arg rs ch)) c.in-Unary.is in
     let has = unary_has rs ch p f a is in
     let w₀ = walked_none rs n ch c.requires.suits c.requires.bank c.args.known.now c.requires.known in
-    let w₁ = walked_more rs n ch c.requires.suits [] rs n c.args.known.now w₀ a a_in c.rewrite.new.bank c.rewrite.new.count.terms c.rewrite.new.known c.in-ok-a.a c.in-ok-a.ensures in
-    let at_a = walked_at rs n ch c.requires.suits [] rs n c.args.known.now w₀ a a_in c.rewrite.new.bank c.rewrite.new.count.terms c.rewrite.new.known c.in-ok-a.a c.in-ok-a.ensures in
-    settled rs n ch c.requires.suits (a ∷ []) p c.requires.inside has c.rewrite.new.bank c.rewrite.new.count.terms c.rewrite.new.known w₁ (Unary f c.in-ok-a.a) (unary_same f (at_a) ∙ sym is) c.settle-in-Unary.new.bank c.settle-in-Unary.new.count.terms c.settle-in-Unary.new.known c.settle-in-Unary.result c.settle-in-Unary.ensures
+    let w₁ = walked_more rs n ch c.requires.suits [] rs n c.args.known.now w₀ a a_in c.rewrite.new.bank c.rewrite.new.count.terms c.rewrite.new.known c.in_ok-a-in-Unary.a c.in_ok-a-in-Unary.ensures in
+    let at_a = walked_at rs n ch c.requires.suits [] rs n c.args.known.now w₀ a a_in c.rewrite.new.bank c.rewrite.new.count.terms c.rewrite.new.known c.in_ok-a-in-Unary.a c.in_ok-a-in-Unary.ensures in
+    settled rs n ch c.requires.suits (a ∷ []) p c.requires.inside has c.rewrite.new.bank c.rewrite.new.count.terms c.rewrite.new.known w₁ (Unary f c.in_ok-a-in-Unary.a) (unary_same f (at_a) ∙ sym is) c.settle-in-Unary.new.bank c.settle-in-Unary.new.count.terms c.settle-in-Unary.new.known c.settle-in-Unary.result c.settle-in-Unary.ensures
 
-pub returns-in-err-a-2 : goal.returns-in-err-a-2
-returns-in-err-a-2 t c =
+pub returns-in_err-a-in-Binary : goal.returns-in_err-a-in-Binary
+returns-in_err-a-in-Binary t c =
     let rs = c.args.bank.now in
     let n = c.args.count.now.terms in
     let ch = c.args.change.now in
@@ -96,12 +96,12 @@ returns-in-err-a-2 t c =
     let is = stopped_none rs n c.requires.bank p c.requires.inside ch c.requires.suits (sym c.in_default-stop.ensures) ∙ ap (term_of (arg rs ch)) c.in-Binary.is in
     let has = binary_has rs ch p f a b is in
     let w₀ = walked_none rs n ch c.requires.suits c.requires.bank c.args.known.now c.requires.known in
-    broken_off rs n ch p (a ∷ []) (b ∷ []) has c.rewrite-in-Binary.new.bank c.rewrite-in-Binary.new.count.terms c.in-err-a-2.field-0.0
-    (walked_broken rs n ch c.requires.suits [] rs n c.args.known.now w₀ a a_in c.rewrite-in-Binary.new.bank c.rewrite-in-Binary.new.count.terms c.rewrite-in-Binary.new.known c.in-err-a-2.field-0.0 c.in-err-a-2.ensures)
-    c.rewrite-in-Binary.new.known c.from-residual-in-err-a-2.result c.from-residual-in-err-a-2.ensures.1
+    broken_off rs n ch p (a ∷ []) (b ∷ []) has c.rewrite-in-Binary.new.bank c.rewrite-in-Binary.new.count.terms c.in_err-a-in-Binary.field-0.0
+    (walked_broken rs n ch c.requires.suits [] rs n c.args.known.now w₀ a a_in c.rewrite-in-Binary.new.bank c.rewrite-in-Binary.new.count.terms c.rewrite-in-Binary.new.known c.in_err-a-in-Binary.field-0.0 c.in_err-a-in-Binary.ensures)
+    c.rewrite-in-Binary.new.known c.from_residual-in_err-a-in-Binary.result c.from_residual-in_err-a-in-Binary.ensures.1
 
-pub returns-in-err-b : goal.returns-in-err-b
-returns-in-err-b t c =
+pub returns-in_err-b-in-Binary : goal.returns-in_err-b-in-Binary
+returns-in_err-b-in-Binary t c =
     let rs = c.args.bank.now in
     let n = c.args.count.now.terms in
     let ch = c.args.change.now in
@@ -115,14 +115,14 @@ returns-in-err-b t c =
     let is = stopped_none rs n c.requires.bank p c.requires.inside ch c.requires.suits (sym c.in_default-stop.ensures) ∙ ap (term_of (arg rs ch)) c.in-Binary.is in
     let has = binary_has rs ch p f a b is in
     let w₀ = walked_none rs n ch c.requires.suits c.requires.bank c.args.known.now c.requires.known in
-    let w₁ = walked_more rs n ch c.requires.suits [] rs n c.args.known.now w₀ a a_in c.rewrite-in-Binary.new.bank c.rewrite-in-Binary.new.count.terms c.rewrite-in-Binary.new.known c.in-ok-a-2.a c.in-ok-a-2.ensures in
-    let at_a = walked_at rs n ch c.requires.suits [] rs n c.args.known.now w₀ a a_in c.rewrite-in-Binary.new.bank c.rewrite-in-Binary.new.count.terms c.rewrite-in-Binary.new.known c.in-ok-a-2.a c.in-ok-a-2.ensures in
-    broken_off rs n ch p (a ∷ b ∷ []) [] has c.rewrite-in-Binary-2.new.bank c.rewrite-in-Binary-2.new.count.terms c.in-err-b.field-0.0
-    (walked_broken rs n ch c.requires.suits (a ∷ []) c.rewrite-in-Binary.new.bank c.rewrite-in-Binary.new.count.terms c.rewrite-in-Binary.new.known w₁ b b_in c.rewrite-in-Binary-2.new.bank c.rewrite-in-Binary-2.new.count.terms c.rewrite-in-Binary-2.new.known c.in-err-b.field-0.0 c.in-err-b.ensures)
-    c.rewrite-in-Binary-2.new.known c.from-residual-in-err-b.result c.from-residual-in-err-b.ensures.1
+    let w₁ = walked_more rs n ch c.requires.suits [] rs n c.args.known.now w₀ a a_in c.rewrite-in-Binary.new.bank c.rewrite-in-Binary.new.count.terms c.rewrite-in-Binary.new.known c.in_ok-a-in-Binary.a c.in_ok-a-in-Binary.ensures in
+    let at_a = walked_at rs n ch c.requires.suits [] rs n c.args.known.now w₀ a a_in c.rewrite-in-Binary.new.bank c.rewrite-in-Binary.new.count.terms c.rewrite-in-Binary.new.known c.in_ok-a-in-Binary.a c.in_ok-a-in-Binary.ensures in
+    broken_off rs n ch p (a ∷ b ∷ []) [] has c.rewrite-in-Binary-2.new.bank c.rewrite-in-Binary-2.new.count.terms c.in_err-b-in-Binary.field-0.0
+    (walked_broken rs n ch c.requires.suits (a ∷ []) c.rewrite-in-Binary.new.bank c.rewrite-in-Binary.new.count.terms c.rewrite-in-Binary.new.known w₁ b b_in c.rewrite-in-Binary-2.new.bank c.rewrite-in-Binary-2.new.count.terms c.rewrite-in-Binary-2.new.known c.in_err-b-in-Binary.field-0.0 c.in_err-b-in-Binary.ensures)
+    c.rewrite-in-Binary-2.new.known c.from_residual-in_err-b-in-Binary.result c.from_residual-in_err-b-in-Binary.ensures.1
 
-pub returns-in-ok-b : goal.returns-in-ok-b
-returns-in-ok-b t c =
+pub returns-in_ok-b-in-Binary : goal.returns-in_ok-b-in-Binary
+returns-in_ok-b-in-Binary t c =
     let rs = c.args.bank.now in
     let n = c.args.count.now.terms in
     let ch = c.args.change.now in
@@ -136,14 +136,14 @@ returns-in-ok-b t c =
     let is = stopped_none rs n c.requires.bank p c.requires.inside ch c.requires.suits (sym c.in_default-stop.ensures) ∙ ap (term_of (arg rs ch)) c.in-Binary.is in
     let has = binary_has rs ch p f a b is in
     let w₀ = walked_none rs n ch c.requires.suits c.requires.bank c.args.known.now c.requires.known in
-    let w₁ = walked_more rs n ch c.requires.suits [] rs n c.args.known.now w₀ a a_in c.rewrite-in-Binary.new.bank c.rewrite-in-Binary.new.count.terms c.rewrite-in-Binary.new.known c.in-ok-a-2.a c.in-ok-a-2.ensures in
-    let at_a = walked_at rs n ch c.requires.suits [] rs n c.args.known.now w₀ a a_in c.rewrite-in-Binary.new.bank c.rewrite-in-Binary.new.count.terms c.rewrite-in-Binary.new.known c.in-ok-a-2.a c.in-ok-a-2.ensures in
-    let w₂ = walked_more rs n ch c.requires.suits (a ∷ []) c.rewrite-in-Binary.new.bank c.rewrite-in-Binary.new.count.terms c.rewrite-in-Binary.new.known w₁ b b_in c.rewrite-in-Binary-2.new.bank c.rewrite-in-Binary-2.new.count.terms c.rewrite-in-Binary-2.new.known c.in-ok-b.b c.in-ok-b.ensures in
-    let at_b = walked_at rs n ch c.requires.suits (a ∷ []) c.rewrite-in-Binary.new.bank c.rewrite-in-Binary.new.count.terms c.rewrite-in-Binary.new.known w₁ b b_in c.rewrite-in-Binary-2.new.bank c.rewrite-in-Binary-2.new.count.terms c.rewrite-in-Binary-2.new.known c.in-ok-b.b c.in-ok-b.ensures in
-    settled rs n ch c.requires.suits (a ∷ b ∷ []) p c.requires.inside has c.rewrite-in-Binary-2.new.bank c.rewrite-in-Binary-2.new.count.terms c.rewrite-in-Binary-2.new.known w₂ (Binary f c.in-ok-a-2.a c.in-ok-b.b) (binary_same f (at_later c.rewrite-in-Binary.new.bank c.rewrite-in-Binary-2.new.bank c.rewrite-in-Binary.new.count.terms c.rewrite-in-Binary-2.new.count.terms c.in-ok-b.ensures.0.gained.extends c.in-ok-a-2.a c.in-ok-a-2.ensures.0.inside _ (at_a)) (at_b) ∙ sym is) c.settle-in-Binary.new.bank c.settle-in-Binary.new.count.terms c.settle-in-Binary.new.known c.settle-in-Binary.result c.settle-in-Binary.ensures
+    let w₁ = walked_more rs n ch c.requires.suits [] rs n c.args.known.now w₀ a a_in c.rewrite-in-Binary.new.bank c.rewrite-in-Binary.new.count.terms c.rewrite-in-Binary.new.known c.in_ok-a-in-Binary.a c.in_ok-a-in-Binary.ensures in
+    let at_a = walked_at rs n ch c.requires.suits [] rs n c.args.known.now w₀ a a_in c.rewrite-in-Binary.new.bank c.rewrite-in-Binary.new.count.terms c.rewrite-in-Binary.new.known c.in_ok-a-in-Binary.a c.in_ok-a-in-Binary.ensures in
+    let w₂ = walked_more rs n ch c.requires.suits (a ∷ []) c.rewrite-in-Binary.new.bank c.rewrite-in-Binary.new.count.terms c.rewrite-in-Binary.new.known w₁ b b_in c.rewrite-in-Binary-2.new.bank c.rewrite-in-Binary-2.new.count.terms c.rewrite-in-Binary-2.new.known c.in_ok-b-in-Binary.b c.in_ok-b-in-Binary.ensures in
+    let at_b = walked_at rs n ch c.requires.suits (a ∷ []) c.rewrite-in-Binary.new.bank c.rewrite-in-Binary.new.count.terms c.rewrite-in-Binary.new.known w₁ b b_in c.rewrite-in-Binary-2.new.bank c.rewrite-in-Binary-2.new.count.terms c.rewrite-in-Binary-2.new.known c.in_ok-b-in-Binary.b c.in_ok-b-in-Binary.ensures in
+    settled rs n ch c.requires.suits (a ∷ b ∷ []) p c.requires.inside has c.rewrite-in-Binary-2.new.bank c.rewrite-in-Binary-2.new.count.terms c.rewrite-in-Binary-2.new.known w₂ (Binary f c.in_ok-a-in-Binary.a c.in_ok-b-in-Binary.b) (binary_same f (at_later c.rewrite-in-Binary.new.bank c.rewrite-in-Binary-2.new.bank c.rewrite-in-Binary.new.count.terms c.rewrite-in-Binary-2.new.count.terms c.in_ok-b-in-Binary.ensures.0.gained.extends c.in_ok-a-in-Binary.a c.in_ok-a-in-Binary.ensures.0.inside _ (at_a)) (at_b) ∙ sym is) c.settle-in-Binary.new.bank c.settle-in-Binary.new.count.terms c.settle-in-Binary.new.known c.settle-in-Binary.result c.settle-in-Binary.ensures
 
-pub returns-in-err-a-3 : goal.returns-in-err-a-3
-returns-in-err-a-3 t c =
+pub returns-in_err-a-in-Ternary : goal.returns-in_err-a-in-Ternary
+returns-in_err-a-in-Ternary t c =
     let rs = c.args.bank.now in
     let n = c.args.count.now.terms in
     let ch = c.args.change.now in
@@ -159,12 +159,12 @@ returns-in-err-a-3 t c =
     let is = stopped_none rs n c.requires.bank p c.requires.inside ch c.requires.suits (sym c.in_default-stop.ensures) ∙ ap (term_of (arg rs ch)) c.in-Ternary.is in
     let has = ternary_has rs ch p f a b d is in
     let w₀ = walked_none rs n ch c.requires.suits c.requires.bank c.args.known.now c.requires.known in
-    broken_off rs n ch p (a ∷ []) (b ∷ d ∷ []) has c.rewrite-in-Ternary.new.bank c.rewrite-in-Ternary.new.count.terms c.in-err-a-3.field-0.0
-    (walked_broken rs n ch c.requires.suits [] rs n c.args.known.now w₀ a a_in c.rewrite-in-Ternary.new.bank c.rewrite-in-Ternary.new.count.terms c.rewrite-in-Ternary.new.known c.in-err-a-3.field-0.0 c.in-err-a-3.ensures)
-    c.rewrite-in-Ternary.new.known c.from-residual-in-err-a-3.result c.from-residual-in-err-a-3.ensures.1
+    broken_off rs n ch p (a ∷ []) (b ∷ d ∷ []) has c.rewrite-in-Ternary.new.bank c.rewrite-in-Ternary.new.count.terms c.in_err-a-in-Ternary.field-0.0
+    (walked_broken rs n ch c.requires.suits [] rs n c.args.known.now w₀ a a_in c.rewrite-in-Ternary.new.bank c.rewrite-in-Ternary.new.count.terms c.rewrite-in-Ternary.new.known c.in_err-a-in-Ternary.field-0.0 c.in_err-a-in-Ternary.ensures)
+    c.rewrite-in-Ternary.new.known c.from_residual-in_err-a-in-Ternary.result c.from_residual-in_err-a-in-Ternary.ensures.1
 
-pub returns-in-err-b-2 : goal.returns-in-err-b-2
-returns-in-err-b-2 t c =
+pub returns-in_err-b-in-Ternary : goal.returns-in_err-b-in-Ternary
+returns-in_err-b-in-Ternary t c =
     let rs = c.args.bank.now in
     let n = c.args.count.now.terms in
     let ch = c.args.change.now in
@@ -180,14 +180,14 @@ returns-in-err-b-2 t c =
     let is = stopped_none rs n c.requires.bank p c.requires.inside ch c.requires.suits (sym c.in_default-stop.ensures) ∙ ap (term_of (arg rs ch)) c.in-Ternary.is in
     let has = ternary_has rs ch p f a b d is in
     let w₀ = walked_none rs n ch c.requires.suits c.requires.bank c.args.known.now c.requires.known in
-    let w₁ = walked_more rs n ch c.requires.suits [] rs n c.args.known.now w₀ a a_in c.rewrite-in-Ternary.new.bank c.rewrite-in-Ternary.new.count.terms c.rewrite-in-Ternary.new.known c.in-ok-a-3.a c.in-ok-a-3.ensures in
-    let at_a = walked_at rs n ch c.requires.suits [] rs n c.args.known.now w₀ a a_in c.rewrite-in-Ternary.new.bank c.rewrite-in-Ternary.new.count.terms c.rewrite-in-Ternary.new.known c.in-ok-a-3.a c.in-ok-a-3.ensures in
-    broken_off rs n ch p (a ∷ b ∷ []) (d ∷ []) has c.rewrite-in-Ternary-2.new.bank c.rewrite-in-Ternary-2.new.count.terms c.in-err-b-2.field-0.0
-    (walked_broken rs n ch c.requires.suits (a ∷ []) c.rewrite-in-Ternary.new.bank c.rewrite-in-Ternary.new.count.terms c.rewrite-in-Ternary.new.known w₁ b b_in c.rewrite-in-Ternary-2.new.bank c.rewrite-in-Ternary-2.new.count.terms c.rewrite-in-Ternary-2.new.known c.in-err-b-2.field-0.0 c.in-err-b-2.ensures)
-    c.rewrite-in-Ternary-2.new.known c.from-residual-in-err-b-2.result c.from-residual-in-err-b-2.ensures.1
+    let w₁ = walked_more rs n ch c.requires.suits [] rs n c.args.known.now w₀ a a_in c.rewrite-in-Ternary.new.bank c.rewrite-in-Ternary.new.count.terms c.rewrite-in-Ternary.new.known c.in_ok-a-in-Ternary.a c.in_ok-a-in-Ternary.ensures in
+    let at_a = walked_at rs n ch c.requires.suits [] rs n c.args.known.now w₀ a a_in c.rewrite-in-Ternary.new.bank c.rewrite-in-Ternary.new.count.terms c.rewrite-in-Ternary.new.known c.in_ok-a-in-Ternary.a c.in_ok-a-in-Ternary.ensures in
+    broken_off rs n ch p (a ∷ b ∷ []) (d ∷ []) has c.rewrite-in-Ternary-2.new.bank c.rewrite-in-Ternary-2.new.count.terms c.in_err-b-in-Ternary.field-0.0
+    (walked_broken rs n ch c.requires.suits (a ∷ []) c.rewrite-in-Ternary.new.bank c.rewrite-in-Ternary.new.count.terms c.rewrite-in-Ternary.new.known w₁ b b_in c.rewrite-in-Ternary-2.new.bank c.rewrite-in-Ternary-2.new.count.terms c.rewrite-in-Ternary-2.new.known c.in_err-b-in-Ternary.field-0.0 c.in_err-b-in-Ternary.ensures)
+    c.rewrite-in-Ternary-2.new.known c.from_residual-in_err-b-in-Ternary.result c.from_residual-in_err-b-in-Ternary.ensures.1
 
-pub returns-in-err-c : goal.returns-in-err-c
-returns-in-err-c t c =
+pub returns-in_err-c-in-Ternary : goal.returns-in_err-c-in-Ternary
+returns-in_err-c-in-Ternary t c =
     let rs = c.args.bank.now in
     let n = c.args.count.now.terms in
     let ch = c.args.change.now in
@@ -203,16 +203,16 @@ returns-in-err-c t c =
     let is = stopped_none rs n c.requires.bank p c.requires.inside ch c.requires.suits (sym c.in_default-stop.ensures) ∙ ap (term_of (arg rs ch)) c.in-Ternary.is in
     let has = ternary_has rs ch p f a b d is in
     let w₀ = walked_none rs n ch c.requires.suits c.requires.bank c.args.known.now c.requires.known in
-    let w₁ = walked_more rs n ch c.requires.suits [] rs n c.args.known.now w₀ a a_in c.rewrite-in-Ternary.new.bank c.rewrite-in-Ternary.new.count.terms c.rewrite-in-Ternary.new.known c.in-ok-a-3.a c.in-ok-a-3.ensures in
-    let at_a = walked_at rs n ch c.requires.suits [] rs n c.args.known.now w₀ a a_in c.rewrite-in-Ternary.new.bank c.rewrite-in-Ternary.new.count.terms c.rewrite-in-Ternary.new.known c.in-ok-a-3.a c.in-ok-a-3.ensures in
-    let w₂ = walked_more rs n ch c.requires.suits (a ∷ []) c.rewrite-in-Ternary.new.bank c.rewrite-in-Ternary.new.count.terms c.rewrite-in-Ternary.new.known w₁ b b_in c.rewrite-in-Ternary-2.new.bank c.rewrite-in-Ternary-2.new.count.terms c.rewrite-in-Ternary-2.new.known c.in-ok-b-2.b c.in-ok-b-2.ensures in
-    let at_b = walked_at rs n ch c.requires.suits (a ∷ []) c.rewrite-in-Ternary.new.bank c.rewrite-in-Ternary.new.count.terms c.rewrite-in-Ternary.new.known w₁ b b_in c.rewrite-in-Ternary-2.new.bank c.rewrite-in-Ternary-2.new.count.terms c.rewrite-in-Ternary-2.new.known c.in-ok-b-2.b c.in-ok-b-2.ensures in
-    broken_off rs n ch p (a ∷ b ∷ d ∷ []) [] has c.rewrite-in-Ternary-3.new.bank c.rewrite-in-Ternary-3.new.count.terms c.in-err-c.field-0.0
-    (walked_broken rs n ch c.requires.suits (a ∷ b ∷ []) c.rewrite-in-Ternary-2.new.bank c.rewrite-in-Ternary-2.new.count.terms c.rewrite-in-Ternary-2.new.known w₂ d d_in c.rewrite-in-Ternary-3.new.bank c.rewrite-in-Ternary-3.new.count.terms c.rewrite-in-Ternary-3.new.known c.in-err-c.field-0.0 c.in-err-c.ensures)
-    c.rewrite-in-Ternary-3.new.known c.from-residual-in-err-c.result c.from-residual-in-err-c.ensures.1
+    let w₁ = walked_more rs n ch c.requires.suits [] rs n c.args.known.now w₀ a a_in c.rewrite-in-Ternary.new.bank c.rewrite-in-Ternary.new.count.terms c.rewrite-in-Ternary.new.known c.in_ok-a-in-Ternary.a c.in_ok-a-in-Ternary.ensures in
+    let at_a = walked_at rs n ch c.requires.suits [] rs n c.args.known.now w₀ a a_in c.rewrite-in-Ternary.new.bank c.rewrite-in-Ternary.new.count.terms c.rewrite-in-Ternary.new.known c.in_ok-a-in-Ternary.a c.in_ok-a-in-Ternary.ensures in
+    let w₂ = walked_more rs n ch c.requires.suits (a ∷ []) c.rewrite-in-Ternary.new.bank c.rewrite-in-Ternary.new.count.terms c.rewrite-in-Ternary.new.known w₁ b b_in c.rewrite-in-Ternary-2.new.bank c.rewrite-in-Ternary-2.new.count.terms c.rewrite-in-Ternary-2.new.known c.in_ok-b-in-Ternary.b c.in_ok-b-in-Ternary.ensures in
+    let at_b = walked_at rs n ch c.requires.suits (a ∷ []) c.rewrite-in-Ternary.new.bank c.rewrite-in-Ternary.new.count.terms c.rewrite-in-Ternary.new.known w₁ b b_in c.rewrite-in-Ternary-2.new.bank c.rewrite-in-Ternary-2.new.count.terms c.rewrite-in-Ternary-2.new.known c.in_ok-b-in-Ternary.b c.in_ok-b-in-Ternary.ensures in
+    broken_off rs n ch p (a ∷ b ∷ d ∷ []) [] has c.rewrite-in-Ternary-3.new.bank c.rewrite-in-Ternary-3.new.count.terms c.in_err-c-in-Ternary.field-0.0
+    (walked_broken rs n ch c.requires.suits (a ∷ b ∷ []) c.rewrite-in-Ternary-2.new.bank c.rewrite-in-Ternary-2.new.count.terms c.rewrite-in-Ternary-2.new.known w₂ d d_in c.rewrite-in-Ternary-3.new.bank c.rewrite-in-Ternary-3.new.count.terms c.rewrite-in-Ternary-3.new.known c.in_err-c-in-Ternary.field-0.0 c.in_err-c-in-Ternary.ensures)
+    c.rewrite-in-Ternary-3.new.known c.from_residual-in_err-c-in-Ternary.result c.from_residual-in_err-c-in-Ternary.ensures.1
 
-pub returns-in-ok-c : goal.returns-in-ok-c
-returns-in-ok-c t c =
+pub returns-in_ok-c-in-Ternary : goal.returns-in_ok-c-in-Ternary
+returns-in_ok-c-in-Ternary t c =
     let rs = c.args.bank.now in
     let n = c.args.count.now.terms in
     let ch = c.args.change.now in
@@ -228,13 +228,13 @@ returns-in-ok-c t c =
     let is = stopped_none rs n c.requires.bank p c.requires.inside ch c.requires.suits (sym c.in_default-stop.ensures) ∙ ap (term_of (arg rs ch)) c.in-Ternary.is in
     let has = ternary_has rs ch p f a b d is in
     let w₀ = walked_none rs n ch c.requires.suits c.requires.bank c.args.known.now c.requires.known in
-    let w₁ = walked_more rs n ch c.requires.suits [] rs n c.args.known.now w₀ a a_in c.rewrite-in-Ternary.new.bank c.rewrite-in-Ternary.new.count.terms c.rewrite-in-Ternary.new.known c.in-ok-a-3.a c.in-ok-a-3.ensures in
-    let at_a = walked_at rs n ch c.requires.suits [] rs n c.args.known.now w₀ a a_in c.rewrite-in-Ternary.new.bank c.rewrite-in-Ternary.new.count.terms c.rewrite-in-Ternary.new.known c.in-ok-a-3.a c.in-ok-a-3.ensures in
-    let w₂ = walked_more rs n ch c.requires.suits (a ∷ []) c.rewrite-in-Ternary.new.bank c.rewrite-in-Ternary.new.count.terms c.rewrite-in-Ternary.new.known w₁ b b_in c.rewrite-in-Ternary-2.new.bank c.rewrite-in-Ternary-2.new.count.terms c.rewrite-in-Ternary-2.new.known c.in-ok-b-2.b c.in-ok-b-2.ensures in
-    let at_b = walked_at rs n ch c.requires.suits (a ∷ []) c.rewrite-in-Ternary.new.bank c.rewrite-in-Ternary.new.count.terms c.rewrite-in-Ternary.new.known w₁ b b_in c.rewrite-in-Ternary-2.new.bank c.rewrite-in-Ternary-2.new.count.terms c.rewrite-in-Ternary-2.new.known c.in-ok-b-2.b c.in-ok-b-2.ensures in
-    let w₃ = walked_more rs n ch c.requires.suits (a ∷ b ∷ []) c.rewrite-in-Ternary-2.new.bank c.rewrite-in-Ternary-2.new.count.terms c.rewrite-in-Ternary-2.new.known w₂ d d_in c.rewrite-in-Ternary-3.new.bank c.rewrite-in-Ternary-3.new.count.terms c.rewrite-in-Ternary-3.new.known c.in-ok-c.c c.in-ok-c.ensures in
-    let at_d = walked_at rs n ch c.requires.suits (a ∷ b ∷ []) c.rewrite-in-Ternary-2.new.bank c.rewrite-in-Ternary-2.new.count.terms c.rewrite-in-Ternary-2.new.known w₂ d d_in c.rewrite-in-Ternary-3.new.bank c.rewrite-in-Ternary-3.new.count.terms c.rewrite-in-Ternary-3.new.known c.in-ok-c.c c.in-ok-c.ensures in
-    settled rs n ch c.requires.suits (a ∷ b ∷ d ∷ []) p c.requires.inside has c.rewrite-in-Ternary-3.new.bank c.rewrite-in-Ternary-3.new.count.terms c.rewrite-in-Ternary-3.new.known w₃ (Ternary f c.in-ok-a-3.a c.in-ok-b-2.b c.in-ok-c.c) (ternary_same f (at_later c.rewrite-in-Ternary-2.new.bank c.rewrite-in-Ternary-3.new.bank c.rewrite-in-Ternary-2.new.count.terms c.rewrite-in-Ternary-3.new.count.terms c.in-ok-c.ensures.0.gained.extends c.in-ok-a-3.a (more c.in-ok-a-3.a _ _ c.in-ok-b-2.ensures.0.gained.extends.more c.in-ok-a-3.ensures.0.inside) _ (at_later c.rewrite-in-Ternary.new.bank c.rewrite-in-Ternary-2.new.bank c.rewrite-in-Ternary.new.count.terms c.rewrite-in-Ternary-2.new.count.terms c.in-ok-b-2.ensures.0.gained.extends c.in-ok-a-3.a c.in-ok-a-3.ensures.0.inside _ (at_a))) (at_later c.rewrite-in-Ternary-2.new.bank c.rewrite-in-Ternary-3.new.bank c.rewrite-in-Ternary-2.new.count.terms c.rewrite-in-Ternary-3.new.count.terms c.in-ok-c.ensures.0.gained.extends c.in-ok-b-2.b c.in-ok-b-2.ensures.0.inside _ (at_b)) (at_d) ∙ sym is) c.settle-in-Ternary.new.bank c.settle-in-Ternary.new.count.terms c.settle-in-Ternary.new.known c.settle-in-Ternary.result c.settle-in-Ternary.ensures
+    let w₁ = walked_more rs n ch c.requires.suits [] rs n c.args.known.now w₀ a a_in c.rewrite-in-Ternary.new.bank c.rewrite-in-Ternary.new.count.terms c.rewrite-in-Ternary.new.known c.in_ok-a-in-Ternary.a c.in_ok-a-in-Ternary.ensures in
+    let at_a = walked_at rs n ch c.requires.suits [] rs n c.args.known.now w₀ a a_in c.rewrite-in-Ternary.new.bank c.rewrite-in-Ternary.new.count.terms c.rewrite-in-Ternary.new.known c.in_ok-a-in-Ternary.a c.in_ok-a-in-Ternary.ensures in
+    let w₂ = walked_more rs n ch c.requires.suits (a ∷ []) c.rewrite-in-Ternary.new.bank c.rewrite-in-Ternary.new.count.terms c.rewrite-in-Ternary.new.known w₁ b b_in c.rewrite-in-Ternary-2.new.bank c.rewrite-in-Ternary-2.new.count.terms c.rewrite-in-Ternary-2.new.known c.in_ok-b-in-Ternary.b c.in_ok-b-in-Ternary.ensures in
+    let at_b = walked_at rs n ch c.requires.suits (a ∷ []) c.rewrite-in-Ternary.new.bank c.rewrite-in-Ternary.new.count.terms c.rewrite-in-Ternary.new.known w₁ b b_in c.rewrite-in-Ternary-2.new.bank c.rewrite-in-Ternary-2.new.count.terms c.rewrite-in-Ternary-2.new.known c.in_ok-b-in-Ternary.b c.in_ok-b-in-Ternary.ensures in
+    let w₃ = walked_more rs n ch c.requires.suits (a ∷ b ∷ []) c.rewrite-in-Ternary-2.new.bank c.rewrite-in-Ternary-2.new.count.terms c.rewrite-in-Ternary-2.new.known w₂ d d_in c.rewrite-in-Ternary-3.new.bank c.rewrite-in-Ternary-3.new.count.terms c.rewrite-in-Ternary-3.new.known c.in_ok-c-in-Ternary.c c.in_ok-c-in-Ternary.ensures in
+    let at_d = walked_at rs n ch c.requires.suits (a ∷ b ∷ []) c.rewrite-in-Ternary-2.new.bank c.rewrite-in-Ternary-2.new.count.terms c.rewrite-in-Ternary-2.new.known w₂ d d_in c.rewrite-in-Ternary-3.new.bank c.rewrite-in-Ternary-3.new.count.terms c.rewrite-in-Ternary-3.new.known c.in_ok-c-in-Ternary.c c.in_ok-c-in-Ternary.ensures in
+    settled rs n ch c.requires.suits (a ∷ b ∷ d ∷ []) p c.requires.inside has c.rewrite-in-Ternary-3.new.bank c.rewrite-in-Ternary-3.new.count.terms c.rewrite-in-Ternary-3.new.known w₃ (Ternary f c.in_ok-a-in-Ternary.a c.in_ok-b-in-Ternary.b c.in_ok-c-in-Ternary.c) (ternary_same f (at_later c.rewrite-in-Ternary-2.new.bank c.rewrite-in-Ternary-3.new.bank c.rewrite-in-Ternary-2.new.count.terms c.rewrite-in-Ternary-3.new.count.terms c.in_ok-c-in-Ternary.ensures.0.gained.extends c.in_ok-a-in-Ternary.a (more c.in_ok-a-in-Ternary.a _ _ c.in_ok-b-in-Ternary.ensures.0.gained.extends.more c.in_ok-a-in-Ternary.ensures.0.inside) _ (at_later c.rewrite-in-Ternary.new.bank c.rewrite-in-Ternary-2.new.bank c.rewrite-in-Ternary.new.count.terms c.rewrite-in-Ternary-2.new.count.terms c.in_ok-b-in-Ternary.ensures.0.gained.extends c.in_ok-a-in-Ternary.a c.in_ok-a-in-Ternary.ensures.0.inside _ (at_a))) (at_later c.rewrite-in-Ternary-2.new.bank c.rewrite-in-Ternary-3.new.bank c.rewrite-in-Ternary-2.new.count.terms c.rewrite-in-Ternary-3.new.count.terms c.in_ok-c-in-Ternary.ensures.0.gained.extends c.in_ok-b-in-Ternary.b c.in_ok-b-in-Ternary.ensures.0.inside _ (at_b)) (at_d) ∙ sym is) c.settle-in-Ternary.new.bank c.settle-in-Ternary.new.count.terms c.settle-in-Ternary.new.known c.settle-in-Ternary.result c.settle-in-Ternary.ensures
 
 pub returns-in-Name : goal.returns-in-Name
 returns-in-Name t c =

@@ -9,7 +9,7 @@ pub loop-i-init : goal.loop-i-init
 loop-i-init c = trimming_none c.args.bank.now c.args.terms c.args.height (map (term_at c.args.bank.now) (take c.args.readings c.args.places.now)) c.args.conditions.now
 
 pub is_low_and_named-requires : goal.is_low_and_named-requires
-is_low_and_named-requires c κ =
+is_low_and_named-requires c =
     let rs = c.args.bank.now in
     let vector = map (term_at rs) (take c.args.readings c.args.places.now) in
     let l = c.loop-i in
@@ -20,7 +20,7 @@ is_low_and_named-requires c κ =
     }
 
 pub is_repeated-requires : goal.is_repeated-requires
-is_repeated-requires c κ = omega (arith, c.loop-i.invariant.behind, c.loop-i.invariant.long, c.requires.room, c.loop-i-test.true)
+is_repeated-requires c = omega (arith, c.loop-i.invariant.behind, c.loop-i.invariant.long, c.requires.room, c.loop-i-test.true)
 
 pub bounds-conditions-kept : goal.bounds-conditions-kept
 bounds-conditions-kept c = omega (arith, c.loop-i.invariant.behind, c.loop-i.invariant.long, c.requires.room, c.loop-i-test.true)
@@ -47,8 +47,8 @@ loop-i-preserved c =
           ])
     ]
 
-pub overflow-cast-result : goal.overflow-cast-result
-overflow-cast-result c = omega (arith, c.loop-i.invariant.few)
+pub overflow_cast-result : goal.overflow_cast-result
+overflow_cast-result c = omega (arith, c.loop-i.invariant.few)
 
 pub returns : goal.returns
 returns c =

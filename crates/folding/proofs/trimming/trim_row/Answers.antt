@@ -1,4 +1,4 @@
-use Rattle.std.proofs.Common.{◌≡◌, map, length, take, sym, ap, ◌∙◌, subst, arith}
+use Rattle.std.proofs.Common.{map, length, take, ap, ◌∙◌, arith}
 use Rattle.sheet.specs.View.{sheet_of}
 use Rattle.terms.specs.Bank.{term_at, literal_of}
 use Rattle.folding.specs.Dropping.{kept_conditions}

@@ -1,6 +1,6 @@
-use Rattle.std.proofs.Common.{◌≡◌, ◌++◌, sym, ap, ◌∙◌}
+use Rattle.std.proofs.Common.{◌++◌, sym, ap, ◌∙◌}
 use Rattle.std.proofs.lemmas.Result.{MatchResult-weaker}
-use Rattle.terms.specs.Terms.{unary, binary, ternary}
+use Rattle.terms.specs.Terms.{binary, ternary}
 use Rattle.terms.specs.Bank.{term_at}
 use Rattle.notation.specs.Written.{written}
 use Rattle.terms.proofs.Filing.{extends_more}
@@ -11,8 +11,8 @@ pub returns-in-Some-after-3 : goal.returns-in-Some-after-3
 returns-in-Some-after-3 t c =
     let f = c.in-Some-number.f in
     let done = c.finish-in-Some-after-3 in
-    let a = c.in-ok-a.a in
-    let read_a = c.in-ok-a.ensures.term in
+    let a = c.in_ok-a.a in
+    let read_a = c.in_ok-a.ensures.term in
     record {
       extends = extends_more c.args.bank.now c.term.new.bank done.new.bank c.args.count.now.terms c.term.new.count.terms done.new.count.terms c.term.ensures.extends done.ensures.extends;
       term = MatchResult-weaker done.result done.ensures.term
@@ -33,10 +33,10 @@ returns-in-Some-after-5 t c =
     let n₁ = c.term.new.count.terms in
     let rs₂ = c.term-2.new.bank in
     let n₂ = c.term-2.new.count.terms in
-    let a = c.in-ok-a.a in
-    let b = c.in-ok-b.b in
-    let read_a = c.in-ok-a.ensures.term in
-    let read_b = c.in-ok-b.ensures.term in
+    let a = c.in_ok-a.a in
+    let b = c.in_ok-b.b in
+    let read_a = c.in_ok-a.ensures.term in
+    let read_b = c.in_ok-b.ensures.term in
     let a_stays = (c.term-2.ensures.extends.stays a read_a.0).1 in
     record {
       extends = extends_more rs rs₂ done.new.bank n n₂ done.new.count.terms (extends_more rs rs₁ rs₂ n n₁ n₂ c.term.ensures.extends c.term-2.ensures.extends) done.ensures.extends;
@@ -60,12 +60,12 @@ returns t c =
     let n₂ = c.term-2.new.count.terms in
     let rs₃ = c.term-3.new.bank in
     let n₃ = c.term-3.new.count.terms in
-    let a = c.in-ok-a.a in
-    let b = c.in-ok-b.b in
-    let d = c.in-ok-c.c in
-    let read_a = c.in-ok-a.ensures.term in
-    let read_b = c.in-ok-b.ensures.term in
-    let read_c = c.in-ok-c.ensures.term in
+    let a = c.in_ok-a.a in
+    let b = c.in_ok-b.b in
+    let d = c.in_ok-c.c in
+    let read_a = c.in_ok-a.ensures.term in
+    let read_b = c.in_ok-b.ensures.term in
+    let read_c = c.in_ok-c.ensures.term in
     let two = extends_more rs₁ rs₂ rs₃ n₁ n₂ n₃ c.term-2.ensures.extends c.term-3.ensures.extends in
     let a_stays = (two.stays a read_a.0).1 in
     let b_stays = (c.term-3.ensures.extends.stays b read_b.0).1 in

@@ -1,4 +1,4 @@
-use Rattle.std.proofs.Common.{◌≡◌, ◌++◌, sym, ap, ◌∙◌, arith}
+use Rattle.std.proofs.Common.{◌++◌, sym, ap, ◌∙◌, arith}
 use Rattle.terms.specs.Bank.{term_at}
 use Rattle.notation.specs.Written.{written}
 use Rattle.terms.proofs.Filing.{extends_more}
@@ -10,14 +10,14 @@ returns c =
     let rs₁ = c.term.new.bank in
     let rs₂ = c.term-2.new.bank in
     let grown = c.term-2.ensures.extends in
-    let read_left = c.in-ok-left.ensures.term in
-    let read_right = c.in-ok-right.ensures.term in
-    let stays = (grown.stays c.in-ok-left.left read_left.0).1 in
+    let read_left = c.in_ok-left.ensures.term in
+    let read_right = c.in_ok-right.ensures.term in
+    let stays = (grown.stays c.in_ok-left.left read_left.0).1 in
     record {
       extends = extends_more c.args.bank.now rs₁ rs₂ c.args.count.now.terms c.term.new.count.terms c.term-2.new.count.terms c.term.ensures.extends grown;
       line = (
         omega (arith, read_left.0, grown.more),
         read_right.0,
-        line_read (term_at rs₂ c.in-ok-left.left) (term_at rs₂ c.in-ok-right.right) c.in-Some.sign c.args.text.now c.in-ok-left.rest.now c.in-Some.rest.now c.in-ok-right.rest.now c.in-Some-after.rest.now (read_left.1 ∙ ap (λ u. written u ++ c.in-ok-left.rest.now) (sym stays)) c.in-Some.ensures read_right.1 c.in-Some-after.ensures,
+        line_read (term_at rs₂ c.in_ok-left.left) (term_at rs₂ c.in_ok-right.right) c.in-Some.sign c.args.text.now c.in_ok-left.rest.now c.in-Some.rest.now c.in_ok-right.rest.now c.in-Some-after.rest.now (read_left.1 ∙ ap (λ u. written u ++ c.in_ok-left.rest.now) (sym stays)) c.in-Some.ensures read_right.1 c.in-Some-after.ensures,
       );
     }

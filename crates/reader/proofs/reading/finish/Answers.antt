@@ -1,4 +1,4 @@
-use Rattle.std.proofs.Common.{vec_items, sym, ◌∙◌}
+use Rattle.std.proofs.Common.{vec_items, sym}
 use Rattle.reader.proofs.Progressing.{unfinished, overlong, ended}
 use Rattle.reader.proofs.reading.finish.Goals as goal
 

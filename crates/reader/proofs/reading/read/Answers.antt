@@ -1,4 +1,4 @@
-use Rattle.std.proofs.Common.{vec_items, sym, refl, ap, subst}
+use Rattle.std.proofs.Common.{vec_items, sym, refl, subst}
 use Rattle.sheet.specs.View.{sheet_of}
 use Rattle.reader.specs.Outcome.{Accepted}
 use Rattle.reader.proofs.Exact.{accepted_read, written_out_back}

@@ -1,4 +1,3 @@
-use Rattle.std.proofs.Common.{◌≡◌}
 use Rattle.sheet.specs.Stored.{term_in, term_info_in}
 use Rattle.sheet.specs.Rules.{term_info}
 use Rattle.sheet.proofs.Growing.{informed_push, nodes_push}
@@ -6,5 +5,5 @@ use Rattle.reader.proofs.draft.Draft.add_term.Goals as goal
 
 pub returns : goal.returns
 returns c =
-    let p = nodes_push term_in _ _ _ c.in-ok-push.ensures.items in
-    record { system = rw p; informed = record { terms = informed_push term_in term_info_in term_info _ _ _ c.requires.informed.terms c.info_of_term-info.ensures c.in-ok-push.ensures.items; formulas = c.requires.informed.formulas } }
+    let p = nodes_push term_in _ _ _ c.in_ok-push.ensures.items in
+    record { system = rw p; informed = record { terms = informed_push term_in term_info_in term_info _ _ _ c.requires.informed.terms c.info_of_term-info.ensures c.in_ok-push.ensures.items; formulas = c.requires.informed.formulas } }

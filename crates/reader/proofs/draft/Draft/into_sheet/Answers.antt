@@ -3,5 +3,5 @@ use Rattle.sheet.specs.Lawful.{Lawful}
 use Rattle.sheet.specs.Stored.{system_of}
 use Rattle.reader.proofs.draft.Draft.into_sheet.Goals as goal
 
-pub invariant-of-result : goal.invariant-of-result
-invariant-of-result c = (∣ subst Lawful (ap₂ (λ (v h : Option ℕ). system_of c.args.self.parts v h) c.in-Some-Some.is-0 c.in-Some-Some.is-1) c.requires.lawful ∣₁, (∣ c.requires.informed ∣₁, tt))
+pub invariant_of-result : goal.invariant_of-result
+invariant_of-result c = record { lawful = ∣ subst Lawful (ap₂ (λ (v h : Option ℕ). system_of c.args.self.parts v h) c.in-Some-Some.is-0 c.in-Some-Some.is-1) c.requires.lawful ∣₁; informed = ∣ c.requires.informed ∣₁ }

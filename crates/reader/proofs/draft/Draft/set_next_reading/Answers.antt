@@ -1,4 +1,4 @@
-use Rattle.std.proofs.Common.{◌≡◌, ◌≤◌, length, vec_items, arith}
+use Rattle.std.proofs.Common.{◌≤◌, length, vec_items, arith}
 use Rattle.std.proofs.lemmas.List.{set_past}
 use Rattle.reader.proofs.draft.Draft.set_next_reading.Goals as goal
 
