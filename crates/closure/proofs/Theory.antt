@@ -1,6 +1,6 @@
 -- Labels that are closed and forced decide the conditions: a model from the labels, and congruence in every model.
 use Rattle.std.proofs.Common.{◌≡◌, ℕ, zero, suc, ◌^◌, ◌<◌, ◌≤◌, true, false, cond, List, [], ◌∷◌, length, get_or, sym, refl, ap, ◌∙◌, subst, ⊎_elim, arith}
-use Rattle.std.specs.List.{ContainsAt as Has, AllByRecursion as All}
+use Rattle.std.specs.List.{ContainsAt as Has, AllByRecursion}
 use Rattle.std.proofs.lemmas.List.{get_or-map, length-map}
 use Rattle.std.proofs.ByRecursion.{all-has, All-from_get_or, All-map}
 use Rattle.std.proofs.lemmas.Bool.{cases_Bool, cases_lt, cond-true, cond-false, both_ways}
@@ -52,7 +52,7 @@ congruent_labels rs n cs l forced i j p q e =
 abbrev Agrees : List Literal → Interpretation → Type 0
 Agrees cs m = (c : Literal) → Has cs c → c.sign ≡ Equal → eval m c.left ≡ eval m c.right
 
-agrees_from_all : (cs : List Literal) (m : Interpretation) → All (Holds m) cs → Agrees cs m
+agrees_from_all : (cs : List Literal) (m : Interpretation) → AllByRecursion (Holds m) cs → Agrees cs m
 agrees_from_all cs m met c has is = subst (λ g. AreSigned g (eval m c.left) (eval m c.right)) is (all-has (Holds m) cs c met has)
 
 -- where the equations are true, congruent terms have one value

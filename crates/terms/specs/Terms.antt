@@ -1,6 +1,6 @@
 -- Terms over uninterpreted symbols, what they mean, and conditions between them. Assumes nothing.
 use Rattle.std.specs.Prelude.{◌≡◌, ℕ, suc, ◌^◌, ◌<◌, max, Bool, false, cond, ◌&&◌, ◌||◌, List, [], ◌∷◌, ◌==◌, bit_or}
-use Rattle.std.specs.List.{AllByRecursion as All}
+use Rattle.std.specs.List.{AllByRecursion}
 use Rattle.terms.specs.declared.Sign.{Sign}
 use Rattle.terms.specs.declared.Sign.TheVariants.{Equal, Different}
 
@@ -110,8 +110,8 @@ Holds m c = AreSigned c.sign (eval m c.left) (eval m c.right)
 
 -- some interpretation makes all of them true
 abbrev pub Sat : List Literal → Type 0
-Sat cs = (m : Interpretation) × All (Holds m) cs
+Sat cs = (m : Interpretation) × AllByRecursion (Holds m) cs
 
 -- every interpretation that makes all of them true makes this one true
 abbrev pub Entails : List Literal → Literal → Type 0
-Entails cs goal = (m : Interpretation) → All (Holds m) cs → Holds m goal
+Entails cs goal = (m : Interpretation) → AllByRecursion (Holds m) cs → Holds m goal
