@@ -27,7 +27,7 @@ use folding::{form, takes};
 use reader::{read, smallest};
 use rows::{RowRecord, names_of_row};
 use sheet::Sheet;
-use std::fmt;
+use std::alloc::AllocError;
 use std::io::Read;
 use terms::{Count, MOST_TERMS, Node, TermRecord};
 use writing::{front, write_conditions, write_fault, write_renaming, write_row};
@@ -83,7 +83,7 @@ fn write_safety(
     sheet: &Sheet,
     memory: &mut Memory,
     made: &RowRecord,
-) -> fmt::Result {
+) -> Result<(), AllocError> {
     write!(text, " safe")?;
     let answer = is_safe(
         sheet,
@@ -105,7 +105,7 @@ fn write_taking(
     memory: &mut Memory,
     row: &RowRecord,
     made: &RowRecord,
-) -> fmt::Result {
+) -> Result<(), AllocError> {
     write!(text, " taken")?;
     let names = names_of_row(sheet, &memory.bank, row);
     let answer = takes(
@@ -133,7 +133,7 @@ fn write_form(
     memory: &mut Memory,
     row: &RowRecord,
     branch: u8,
-) -> fmt::Result {
+) -> Result<(), AllocError> {
     write!(text, "branch {branch} form")?;
     let made = match form_of(sheet, memory, row, branch) {
         Ok(made) => made,
@@ -152,7 +152,7 @@ fn write_branch(
     memory: &mut Memory,
     row: &RowRecord,
     branch: u8,
-) -> fmt::Result {
+) -> Result<(), AllocError> {
     write!(text, "branch {branch} conditions")?;
     let asked = branch_conditions(sheet, &mut memory.bank, &mut memory.count, row, branch);
     let conditions = match asked {
@@ -178,7 +178,7 @@ fn write_branches(
     sheet: &Sheet,
     memory: &mut Memory,
     row: &RowRecord,
-) -> fmt::Result {
+) -> Result<(), AllocError> {
     let questions = sheet.parts.questions.len();
     let branches = 1u8 << questions.min(6);
     let start = memory.count;
@@ -189,7 +189,7 @@ fn write_branches(
     Ok(())
 }
 
-fn write_step(text: &mut String, sheet: &Sheet) -> fmt::Result {
+fn write_step(text: &mut String, sheet: &Sheet) -> Result<(), AllocError> {
     let mut memory = Memory::empty();
     write!(text, "row 0")?;
     let row = match first_row(sheet, &mut memory.bank, &mut memory.count) {

@@ -3,7 +3,7 @@ use fault::{Fault, TableFault};
 use folding::Renaming;
 use rows::{RowRecord, at_or, bits_of, readings_of};
 use sheet::Sheet;
-use std::fmt;
+use std::alloc::AllocError;
 use terms::{Condition, Node, Sign, TermRecord};
 
 /// The first `n` elements, or all where there are fewer.
@@ -17,13 +17,18 @@ fn separator(first: bool) -> &'static str {
 }
 
 /// A refusal, at the end of its line.
-pub(crate) fn write_fault(text: &mut String, fault: TableFault) -> fmt::Result {
+pub(crate) fn write_fault(text: &mut String, fault: TableFault) -> Result<(), AllocError> {
     let number = Fault::Table(fault).number();
     write!(text, " fault {number}\n")
 }
 
 // The term at a place, where that is below `below` and in the bank. Every argument of a bank's term is below it.
-fn write_term(text: &mut String, bank: &[TermRecord], place: usize, below: usize) -> fmt::Result {
+fn write_term(
+    text: &mut String,
+    bank: &[TermRecord],
+    place: usize,
+    below: usize,
+) -> Result<(), AllocError> {
     if place >= below || place >= bank.len() {
         return Ok(());
     }
@@ -55,7 +60,11 @@ fn write_term(text: &mut String, bank: &[TermRecord], place: usize, below: usize
     }
 }
 
-fn write_condition(text: &mut String, bank: &[TermRecord], condition: Condition) -> fmt::Result {
+fn write_condition(
+    text: &mut String,
+    bank: &[TermRecord],
+    condition: Condition,
+) -> Result<(), AllocError> {
     write_term(text, bank, condition.left as usize, bank.len())?;
     match condition.sign {
         Sign::Equal => write!(text, " = ")?,
@@ -69,7 +78,7 @@ pub(crate) fn write_conditions(
     text: &mut String,
     bank: &[TermRecord],
     conditions: &[Condition],
-) -> fmt::Result {
+) -> Result<(), AllocError> {
     if conditions.len() == 0 {
         return write!(text, " none");
     }
@@ -81,7 +90,7 @@ pub(crate) fn write_conditions(
     Ok(())
 }
 
-fn write_bits(text: &mut String, bits: &[bool]) -> fmt::Result {
+fn write_bits(text: &mut String, bits: &[bool]) -> Result<(), AllocError> {
     if bits.len() == 0 {
         return write!(text, " none");
     }
@@ -92,7 +101,11 @@ fn write_bits(text: &mut String, bits: &[bool]) -> fmt::Result {
     Ok(())
 }
 
-fn write_readings(text: &mut String, bank: &[TermRecord], vector: &[u16]) -> fmt::Result {
+fn write_readings(
+    text: &mut String,
+    bank: &[TermRecord],
+    vector: &[u16],
+) -> Result<(), AllocError> {
     if vector.len() == 0 {
         return write!(text, " none");
     }
@@ -109,7 +122,7 @@ pub(crate) fn write_row(
     sheet: &Sheet,
     bank: &[TermRecord],
     row: &RowRecord,
-) -> fmt::Result {
+) -> Result<(), AllocError> {
     write!(text, " bits")?;
     write_bits(text, front(&row.bits, bits_of(sheet)))?;
     write!(text, " readings")?;
@@ -119,7 +132,11 @@ pub(crate) fn write_row(
 }
 
 /// What each of the names becomes.
-pub(crate) fn write_renaming(text: &mut String, names: u32, renaming: Renaming) -> fmt::Result {
+pub(crate) fn write_renaming(
+    text: &mut String,
+    names: u32,
+    renaming: Renaming,
+) -> Result<(), AllocError> {
     if names == 0 {
         return write!(text, " none");
     }

@@ -1,13 +1,13 @@
 -- What candidates and their conditions are for, from the laws of covering.
-use Rattle.std.proofs.Common.{◌≡◌, ℕ, List, map, length, take, Ok, Err, Result, sym, ◌∙◌, subst}
+use Rattle.std.proofs.Common.{ℕ, List, length, take, Ok, Err, Result, sym, ◌∙◌, subst}
 use Rattle.std.proofs.lemmas.List.{length-map, length-take-le}
 use Rattle.fault.specs.declared.TableFault.{TableFault}
 use Rattle.sheet.specs.Lawful.{Lawful}
 use Rattle.sheet.specs.System.{System}
 use Rattle.terms.specs.declared.TermRecord.{TermRecord}
 use Rattle.terms.specs.Bank.{term_at}
-use Rattle.terms.specs.Terms.{Literal, Sat}
-use Rattle.forms.specs.Rows.{Row, RowOf}
+use Rattle.terms.specs.Terms.{Sat}
+use Rattle.forms.specs.Rows.{RowOf}
 use Rattle.forms.specs.Laws.{CoversStep}
 use Rattle.forms.proofs.Passing.{candidate_covers, impossible_branch}
 use Rattle.rows.specs.declared.row.RowRecord.{RowRecord}

@@ -1,4 +1,4 @@
 use Rattle.branches.proofs.writing.+write_term.Given as goal
 
-abbrev pub decreases-write-term : goal.decreases-write-term
-decreases-write-term l = l.below
+abbrev pub decreases-write_term : goal.decreases-write_term
+decreases-write_term l = l.below

@@ -10,19 +10,19 @@ use Rattle.banks.specs.Gains.{Gained}
 use Rattle.candidates.proofs.Listing.{added_break, asked_more, asked_break, numbered_at, numbered-length, no_equation}
 use Rattle.candidates.proofs.asking.ask.Goals as goal
 
-pub returns-in-err-list : goal.returns-in-err-list
-returns-in-err-list c v over started =
+pub returns-in_err-list : goal.returns-in_err-list
+returns-in_err-list c v over started =
     let values = terms_over v c.args.given.inputs.now (map term_in c.args.given.terms.now) in
     let all = numbered (condition_of values c.args.answers.now) 0 c.args.questions.now in
     let i = c.loop-i.i in
     let inside : i < length c.args.questions.now = c.loop-i-test.true in
     let inside' : i < length all = omega (arith, numbered-length (condition_of values c.args.answers.now) 0 c.args.questions.now) in
-    let l = literal_for values (get_or c.args.questions.now i no_equation) c.at-or-answer.result in
-    let is : l ≡ get_or all i no_literal = ap (literal_for values (get_or c.args.questions.now i no_equation)) c.at-or-answer.ensures ∙ sym (numbered_at (condition_of values c.args.answers.now) c.args.questions.now i no_literal no_equation inside) in
+    let l = literal_for values (get_or c.args.questions.now i no_equation) c.at_or-answer.result in
+    let is : l ≡ get_or all i no_literal = ap (literal_for values (get_or c.args.questions.now i no_equation)) c.at_or-answer.ensures ∙ sym (numbered_at (condition_of values c.args.answers.now) c.args.questions.now i no_literal no_equation inside) in
     let w = c.loop-i.invariant.1 v over started in
-    let x = c.in-err-list.ensures v w.0.over w.0.started in
-    added_break c.args.bank.now c.args.count.now.terms (sides_of all) c.condition-of.new.bank c.condition-of.new.count.terms _ c.in-err-list.field-0.0 c.from-residual.result x.0
-    (asked_break values v c.args.given.vector.now c.args.given.inputs.now c.args.bank.now c.args.count.now.terms i c.loop-i.bank c.loop-i.count.terms c.loop-i.known c.condition-of.new.bank c.condition-of.new.count.terms c.condition-of.new.known all l inside' is w.0 x.1 x.2) c.from-residual.ensures.1
+    let x = c.in_err-list.ensures v w.0.over w.0.started in
+    added_break c.args.bank.now c.args.count.now.terms (sides_of all) c.condition_of.new.bank c.condition_of.new.count.terms _ c.in_err-list.field-0.0 c.from_residual.result x.0
+    (asked_break values v c.args.given.vector.now c.args.given.inputs.now c.args.bank.now c.args.count.now.terms i c.loop-i.bank c.loop-i.count.terms c.loop-i.known c.condition_of.new.bank c.condition_of.new.count.terms c.condition_of.new.known all l inside' is w.0 x.1 x.2) c.from_residual.ensures.1
 
 pub loop-i-init : goal.loop-i-init
 loop-i-init c = (
@@ -33,18 +33,18 @@ loop-i-init c = (
 
 pub loop-i-preserved : goal.loop-i-preserved
 loop-i-preserved c = (
-  length-set c.loop-i.list c.loop-i.i c.in-ok-list.field-0 ∙ c.loop-i.invariant.0,
+  length-set c.loop-i.list c.loop-i.i c.in_ok-list.field-0 ∙ c.loop-i.invariant.0,
   λ v over started.
       let values = terms_over v c.args.given.inputs.now (map term_in c.args.given.terms.now) in
       let all = numbered (condition_of values c.args.answers.now) 0 c.args.questions.now in
       let i = c.loop-i.i in
       let inside : i < length c.args.questions.now = c.loop-i-test.true in
       let inside' : i < length all = omega (arith, numbered-length (condition_of values c.args.answers.now) 0 c.args.questions.now) in
-      let l = literal_for values (get_or c.args.questions.now i no_equation) c.at-or-answer.result in
-      let is : l ≡ get_or all i no_literal = ap (literal_for values (get_or c.args.questions.now i no_equation)) c.at-or-answer.ensures ∙ sym (numbered_at (condition_of values c.args.answers.now) c.args.questions.now i no_literal no_equation inside) in
+      let l = literal_for values (get_or c.args.questions.now i no_equation) c.at_or-answer.result in
+      let is : l ≡ get_or all i no_literal = ap (literal_for values (get_or c.args.questions.now i no_equation)) c.at_or-answer.ensures ∙ sym (numbered_at (condition_of values c.args.answers.now) c.args.questions.now i no_literal no_equation inside) in
       let w = c.loop-i.invariant.1 v over started in
-      let x = c.in-ok-list.ensures v w.0.over w.0.started in
-      asked_more values v c.args.given.vector.now c.args.given.inputs.now c.args.bank.now c.args.count.now.terms i c.loop-i.bank c.loop-i.count.terms c.loop-i.known c.condition-of.new.bank c.condition-of.new.count.terms c.condition-of.new.known all l inside' is w.0 c.loop-i.list c.in-ok-list.field-0 (omega (arith, c.loop-i.invariant.0)) w.1 c.condition-of.auto.bank x.0 x.1,
+      let x = c.in_ok-list.ensures v w.0.over w.0.started in
+      asked_more values v c.args.given.vector.now c.args.given.inputs.now c.args.bank.now c.args.count.now.terms i c.loop-i.bank c.loop-i.count.terms c.loop-i.known c.condition_of.new.bank c.condition_of.new.count.terms c.condition_of.new.known all l inside' is w.0 c.loop-i.list c.in_ok-list.field-0 (omega (arith, c.loop-i.invariant.0)) w.1 c.condition_of.auto.bank x.0 x.1,
 )
 
 pub returns : goal.returns

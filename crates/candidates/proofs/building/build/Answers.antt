@@ -10,63 +10,63 @@ use Rattle.candidates.proofs.Listing.{added_break}
 use Rattle.candidates.proofs.Completing.{conditions_joined, conditions_refused, vector_placed, vector_refused, row_built, bits_built}
 use Rattle.candidates.proofs.building.build.Goals as goal
 
-pub answers-of-answers-requires : goal.answers-of-answers-requires
-answers-of-answers-requires c = omega (arith, c.questions-of-asked.ensures, few_questions (sheet_of c.args.sheet.now) c.args.sheet.now.lawful)
+pub answers_of-answers-requires : goal.answers_of-answers-requires
+answers_of-answers-requires c = omega (arith, c.questions_of-asked.ensures, few_questions (sheet_of c.args.sheet.now) c.args.sheet.now.lawful)
 
-pub slice-bounds-answers-end : goal.slice-bounds-answers-end
-slice-bounds-answers-end c =
-    let few : c.questions-of-asked.result ≤ 6 = omega (arith, c.questions-of-asked.ensures, few_questions (sheet_of c.args.sheet.now) c.args.sheet.now.lawful) in
+pub slice_bounds-answers-end : goal.slice_bounds-answers-end
+slice_bounds-answers-end c =
+    let few : c.questions_of-asked.result ≤ 6 = omega (arith, c.questions_of-asked.ensures, few_questions (sheet_of c.args.sheet.now) c.args.sheet.now.lawful) in
     search rules
 
-pub returns-in-err-conditions : goal.returns-in-err-conditions
-returns-in-err-conditions c =
+pub returns-in_err-conditions : goal.returns-in_err-conditions
+returns-in_err-conditions c =
     let s = sheet_of c.args.sheet.now in
     let few = few_questions s c.args.sheet.now.lawful in
     let rs = c.args.bank.now in
     let n = c.args.count.now.terms in
     let row = c.args.row.now in
-    let m : c.readings-of.result - 0 ≡ length s.readings = omega (arith, c.readings-of.ensures) in
-    let q : c.questions-of-asked.result - 0 ≡ c.questions-of-asked.result = omega arith in
+    let m : c.readings_of.result - 0 ≡ length s.readings = omega (arith, c.readings_of.ensures) in
+    let q : c.questions_of-asked.result - 0 ≡ c.questions_of-asked.result = omega arith in
     let u : row.used - 0 ≡ row.used = omega arith in
-    let entries = c.as-slice.result.now in
-    let places = take (c.readings-of.result - 0) row.vector in
+    let entries = c.as_slice.result.now in
+    let places = take (c.readings_of.result - 0) row.vector in
     let mine = take (row.used - 0) row.conditions in
-    let answers = take (c.questions-of-asked.result - 0) c.answers-of-answers.result in
-    let terms_are = ap (map term_in) c.as-slice.ensures.value in
+    let answers = take (c.questions_of-asked.result - 0) c.answers_of-answers.result in
+    let terms_are = ap (map term_in) c.as_slice.ensures.value in
     let places_are = ap (λ k. take k row.vector) m in
     let mine_are = ap (λ k. take k row.conditions) u in
-    let answers_are : answers ≡ branch_answers (length s.questions) c.args.branch = ap (λ k. take k c.answers-of-answers.result) q ∙ (c.answers-of-answers.ensures ∙ ap (λ k. branch_answers k c.args.branch) c.questions-of-asked.ensures) in
+    let answers_are : answers ≡ branch_answers (length s.questions) c.args.branch = ap (λ k. take k c.answers_of-answers.result) q ∙ (c.answers_of-answers.ensures ∙ ap (λ k. branch_answers k c.args.branch) c.questions_of-asked.ensures) in
     let next = candidate_with s (row_in s rs row) c.args.names.now (branch_answers (length s.questions) c.args.branch) in
-    let x = conditions_joined s rs n row c.requires.sound few c.args.names.now c.requires.names c.args.branch entries places answers terms_are places_are answers_are c.conditions-of.new.bank c.conditions-of.new.count.terms c.conditions-of.new.known mine mine_are (Err c.in-err-conditions.field-0.0) c.in-err-conditions.ensures in
-    added_break rs n (terms_in next) c.conditions-of.new.bank c.conditions-of.new.count.terms _ c.in-err-conditions.field-0.0 c.from-residual.result x.0
-    (conditions_refused s rs n row c.requires.sound few c.args.names.now c.requires.names c.args.branch entries places answers terms_are places_are answers_are c.conditions-of.new.bank c.conditions-of.new.count.terms c.conditions-of.new.known x.1, x.2) c.from-residual.ensures.1
+    let x = conditions_joined s rs n row c.requires.sound few c.args.names.now c.requires.names c.args.branch entries places answers terms_are places_are answers_are c.conditions_of.new.bank c.conditions_of.new.count.terms c.conditions_of.new.known mine mine_are (Err c.in_err-conditions.field-0.0) c.in_err-conditions.ensures in
+    added_break rs n (terms_in next) c.conditions_of.new.bank c.conditions_of.new.count.terms _ c.in_err-conditions.field-0.0 c.from_residual.result x.0
+    (conditions_refused s rs n row c.requires.sound few c.args.names.now c.requires.names c.args.branch entries places answers terms_are places_are answers_are c.conditions_of.new.bank c.conditions_of.new.count.terms c.conditions_of.new.known x.1, x.2) c.from_residual.ensures.1
 
-pub returns-in-err-vector : goal.returns-in-err-vector
-returns-in-err-vector c =
+pub returns-in_err-vector : goal.returns-in_err-vector
+returns-in_err-vector c =
     let s = sheet_of c.args.sheet.now in
     let few = few_questions s c.args.sheet.now.lawful in
     let rs = c.args.bank.now in
     let n = c.args.count.now.terms in
     let row = c.args.row.now in
-    let m : c.readings-of.result - 0 ≡ length s.readings = omega (arith, c.readings-of.ensures) in
-    let q : c.questions-of-asked.result - 0 ≡ c.questions-of-asked.result = omega arith in
+    let m : c.readings_of.result - 0 ≡ length s.readings = omega (arith, c.readings_of.ensures) in
+    let q : c.questions_of-asked.result - 0 ≡ c.questions_of-asked.result = omega arith in
     let u : row.used - 0 ≡ row.used = omega arith in
-    let entries = c.as-slice.result.now in
-    let places = take (c.readings-of.result - 0) row.vector in
+    let entries = c.as_slice.result.now in
+    let places = take (c.readings_of.result - 0) row.vector in
     let mine = take (row.used - 0) row.conditions in
-    let answers = take (c.questions-of-asked.result - 0) c.answers-of-answers.result in
-    let terms_are = ap (map term_in) c.as-slice.ensures.value in
+    let answers = take (c.questions_of-asked.result - 0) c.answers_of-answers.result in
+    let terms_are = ap (map term_in) c.as_slice.ensures.value in
     let places_are = ap (λ k. take k row.vector) m in
     let mine_are = ap (λ k. take k row.conditions) u in
-    let answers_are : answers ≡ branch_answers (length s.questions) c.args.branch = ap (λ k. take k c.answers-of-answers.result) q ∙ (c.answers-of-answers.ensures ∙ ap (λ k. branch_answers k c.args.branch) c.questions-of-asked.ensures) in
+    let answers_are : answers ≡ branch_answers (length s.questions) c.args.branch = ap (λ k. take k c.answers_of-answers.result) q ∙ (c.answers_of-answers.ensures ∙ ap (λ k. branch_answers k c.args.branch) c.questions_of-asked.ensures) in
     let next = candidate_with s (row_in s rs row) c.args.names.now (branch_answers (length s.questions) c.args.branch) in
-    let x = conditions_joined s rs n row c.requires.sound few c.args.names.now c.requires.names c.args.branch entries places answers terms_are places_are answers_are c.conditions-of.new.bank c.conditions-of.new.count.terms c.conditions-of.new.known mine mine_are (Ok c.in-ok-conditions.conditions) c.in-ok-conditions.ensures in
-    let o : c.bits-of.result - 0 ≡ length s.bits = omega (arith, c.bits-of.ensures) in
+    let x = conditions_joined s rs n row c.requires.sound few c.args.names.now c.requires.names c.args.branch entries places answers terms_are places_are answers_are c.conditions_of.new.bank c.conditions_of.new.count.terms c.conditions_of.new.known mine mine_are (Ok c.in_ok-conditions.conditions) c.in_ok-conditions.ensures in
+    let o : c.bits_of.result - 0 ≡ length s.bits = omega (arith, c.bits_of.ensures) in
     let bits_are = ap (λ k. take k row.bits) o in
     let right = λ (k : ℕ). c.resolve-resolved.ensures.chosen k ∙ ap₂ (λ (bs rs' : List Bool). get_or (chosen (λ f. get_or (truths bs rs' [] s.formulas) f false) s.choices) k 0) bits_are answers_are in
-    let y = vector_placed s rs n row c.requires.sound few c.args.names.now c.requires.names c.args.branch entries places answers terms_are places_are answers_are c.conditions-of.new.bank c.conditions-of.new.count.terms c.conditions-of.new.known x.0 x.1.recalled c.conditions-of.auto.bank c.next-vector.new.bank c.next-vector.new.count.terms c.next-vector.new.known c.resolve-resolved.result.chosen right c.as-slice-readings.result.now c.as-slice-readings.ensures.value (Err c.in-err-vector.field-0.0) c.in-err-vector.ensures in
-    added_break rs n (terms_in next) c.next-vector.new.bank c.next-vector.new.count.terms _ c.in-err-vector.field-0.0 c.from-residual-in-err-vector.result y.0
-    (vector_refused s rs n row c.requires.sound few c.args.names.now c.requires.names c.args.branch entries places answers terms_are places_are answers_are c.conditions-of.new.bank c.conditions-of.new.count.terms c.conditions-of.new.known x.0 x.1.recalled c.conditions-of.auto.bank c.next-vector.new.bank c.next-vector.new.count.terms c.next-vector.new.known y.1 y.2) c.from-residual-in-err-vector.ensures.1
+    let y = vector_placed s rs n row c.requires.sound few c.args.names.now c.requires.names c.args.branch entries places answers terms_are places_are answers_are c.conditions_of.new.bank c.conditions_of.new.count.terms c.conditions_of.new.known x.0 x.1.recalled c.conditions_of.auto.bank c.next_vector.new.bank c.next_vector.new.count.terms c.next_vector.new.known c.resolve-resolved.result.chosen right c.as_slice-readings.result.now c.as_slice-readings.ensures.value (Err c.in_err-vector.field-0.0) c.in_err-vector.ensures in
+    added_break rs n (terms_in next) c.next_vector.new.bank c.next_vector.new.count.terms _ c.in_err-vector.field-0.0 c.from_residual-in_err-vector.result y.0
+    (vector_refused s rs n row c.requires.sound few c.args.names.now c.requires.names c.args.branch entries places answers terms_are places_are answers_are c.conditions_of.new.bank c.conditions_of.new.count.terms c.conditions_of.new.known x.0 x.1.recalled c.conditions_of.auto.bank c.next_vector.new.bank c.next_vector.new.count.terms c.next_vector.new.known y.1 y.2) c.from_residual-in_err-vector.ensures.1
 
 pub returns : goal.returns
 returns c =
@@ -75,25 +75,25 @@ returns c =
     let rs = c.args.bank.now in
     let n = c.args.count.now.terms in
     let row = c.args.row.now in
-    let m : c.readings-of.result - 0 ≡ length s.readings = omega (arith, c.readings-of.ensures) in
-    let q : c.questions-of-asked.result - 0 ≡ c.questions-of-asked.result = omega arith in
+    let m : c.readings_of.result - 0 ≡ length s.readings = omega (arith, c.readings_of.ensures) in
+    let q : c.questions_of-asked.result - 0 ≡ c.questions_of-asked.result = omega arith in
     let u : row.used - 0 ≡ row.used = omega arith in
-    let entries = c.as-slice.result.now in
-    let places = take (c.readings-of.result - 0) row.vector in
+    let entries = c.as_slice.result.now in
+    let places = take (c.readings_of.result - 0) row.vector in
     let mine = take (row.used - 0) row.conditions in
-    let answers = take (c.questions-of-asked.result - 0) c.answers-of-answers.result in
-    let terms_are = ap (map term_in) c.as-slice.ensures.value in
+    let answers = take (c.questions_of-asked.result - 0) c.answers_of-answers.result in
+    let terms_are = ap (map term_in) c.as_slice.ensures.value in
     let places_are = ap (λ k. take k row.vector) m in
     let mine_are = ap (λ k. take k row.conditions) u in
-    let answers_are : answers ≡ branch_answers (length s.questions) c.args.branch = ap (λ k. take k c.answers-of-answers.result) q ∙ (c.answers-of-answers.ensures ∙ ap (λ k. branch_answers k c.args.branch) c.questions-of-asked.ensures) in
+    let answers_are : answers ≡ branch_answers (length s.questions) c.args.branch = ap (λ k. take k c.answers_of-answers.result) q ∙ (c.answers_of-answers.ensures ∙ ap (λ k. branch_answers k c.args.branch) c.questions_of-asked.ensures) in
     let next = candidate_with s (row_in s rs row) c.args.names.now (branch_answers (length s.questions) c.args.branch) in
-    let x = conditions_joined s rs n row c.requires.sound few c.args.names.now c.requires.names c.args.branch entries places answers terms_are places_are answers_are c.conditions-of.new.bank c.conditions-of.new.count.terms c.conditions-of.new.known mine mine_are (Ok c.in-ok-conditions.conditions) c.in-ok-conditions.ensures in
-    let o : c.bits-of.result - 0 ≡ length s.bits = omega (arith, c.bits-of.ensures) in
+    let x = conditions_joined s rs n row c.requires.sound few c.args.names.now c.requires.names c.args.branch entries places answers terms_are places_are answers_are c.conditions_of.new.bank c.conditions_of.new.count.terms c.conditions_of.new.known mine mine_are (Ok c.in_ok-conditions.conditions) c.in_ok-conditions.ensures in
+    let o : c.bits_of.result - 0 ≡ length s.bits = omega (arith, c.bits_of.ensures) in
     let bits_are = ap (λ k. take k row.bits) o in
     let right = λ (k : ℕ). c.resolve-resolved.ensures.chosen k ∙ ap₂ (λ (bs rs' : List Bool). get_or (chosen (λ f. get_or (truths bs rs' [] s.formulas) f false) s.choices) k 0) bits_are answers_are in
-    let y = vector_placed s rs n row c.requires.sound few c.args.names.now c.requires.names c.args.branch entries places answers terms_are places_are answers_are c.conditions-of.new.bank c.conditions-of.new.count.terms c.conditions-of.new.known x.0 x.1.recalled c.conditions-of.auto.bank c.next-vector.new.bank c.next-vector.new.count.terms c.next-vector.new.known c.resolve-resolved.result.chosen right c.as-slice-readings.result.now c.as-slice-readings.ensures.value (Ok c.in-ok-vector.vector) c.in-ok-vector.ensures in
+    let y = vector_placed s rs n row c.requires.sound few c.args.names.now c.requires.names c.args.branch entries places answers terms_are places_are answers_are c.conditions_of.new.bank c.conditions_of.new.count.terms c.conditions_of.new.known x.0 x.1.recalled c.conditions_of.auto.bank c.next_vector.new.bank c.next_vector.new.count.terms c.next_vector.new.known c.resolve-resolved.result.chosen right c.as_slice-readings.result.now c.as_slice-readings.ensures.value (Ok c.in_ok-vector.vector) c.in_ok-vector.ensures in
     let true' = λ (f : ℕ). c.resolve-resolved.ensures.truths f ∙ ap₂ (λ (bs rs' : List Bool). get_or (truths bs rs' [] s.formulas) f false) bits_are answers_are in
-    let bits = bits_built s rs n row c.requires.sound few c.args.names.now c.requires.names c.args.branch c.as-slice-2.result.now c.as-slice-2.ensures.value (take (c.bits-of.result - 0) row.bits) bits_are c.resolve-resolved.result.truths true' c.next-bits-bits.result c.next-bits-bits.ensures in
-    let bits_room : length c.next-bits-bits.result ≡ 16 = search rules in
-    let vector_room : length c.in-ok-vector.vector ≡ 6 = search rules in
-    row_built s rs n row c.requires.sound few c.args.names.now c.requires.names c.args.branch entries places answers terms_are places_are answers_are c.conditions-of.new.bank c.conditions-of.new.count.terms c.conditions-of.new.known x.0 x.1.recalled c.conditions-of.auto.bank c.next-vector.new.bank c.next-vector.new.count.terms c.next-vector.new.known c.in-ok-conditions.conditions c.next-bits-bits.result c.in-ok-vector.vector x.1.made y.0 y.1.made bits (omega (arith, few_bits s c.args.sheet.now.lawful)) (omega (arith, few_readings s c.args.sheet.now.lawful))
+    let bits = bits_built s rs n row c.requires.sound few c.args.names.now c.requires.names c.args.branch c.as_slice-2.result.now c.as_slice-2.ensures.value (take (c.bits_of.result - 0) row.bits) bits_are c.resolve-resolved.result.truths true' c.next_bits-bits.result c.next_bits-bits.ensures in
+    let bits_room : length c.next_bits-bits.result ≡ 16 = search rules in
+    let vector_room : length c.in_ok-vector.vector ≡ 6 = search rules in
+    row_built s rs n row c.requires.sound few c.args.names.now c.requires.names c.args.branch entries places answers terms_are places_are answers_are c.conditions_of.new.bank c.conditions_of.new.count.terms c.conditions_of.new.known x.0 x.1.recalled c.conditions_of.auto.bank c.next_vector.new.bank c.next_vector.new.count.terms c.next_vector.new.known c.in_ok-conditions.conditions c.next_bits-bits.result c.in_ok-vector.vector x.1.made y.0 y.1.made bits (omega (arith, few_bits s c.args.sheet.now.lawful)) (omega (arith, few_readings s c.args.sheet.now.lawful))

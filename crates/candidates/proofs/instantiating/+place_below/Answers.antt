@@ -32,14 +32,14 @@ pub returns-in-Reading : goal.returns-in-Reading
 returns-in-Reading t c v over started =
     let values = terms_over v c.args.given.inputs.now (map term_in c.args.given.terms.now) in
     let is = over_reading v c.args.given.inputs.now c.args.given.terms.now c.args.n c.args.below c.if-n-below.false c.if-n-given.false c.in-Reading.r c.in-Reading.is in
-    subst (λ x. Placed values c.args.bank.now c.args.count.now.terms x c.reading-place.new.bank c.reading-place.new.count.terms c.args.known.now c.reading-place.result) (sym is) (c.reading-place.ensures values v c.args.known.now over started)
+    subst (λ x. Placed values c.args.bank.now c.args.count.now.terms x c.reading_place.new.bank c.reading_place.new.count.terms c.args.known.now c.reading_place.result) (sym is) (c.reading_place.ensures values v c.args.known.now over started)
 
 pub returns-in-Input : goal.returns-in-Input
 returns-in-Input t c v over started =
     let values = terms_over v c.args.given.inputs.now (map term_in c.args.given.terms.now) in
     let whole = before no_term values c.args.n c.args.below in
-    let small : c.at-or-name.result < 32 = omega (arith, c.at-or-name.ensures, over.small c.in-Input.i) in
-    c.add.ensures values started small whole (ap name c.at-or-name.ensures ∙ sym (over_input v c.args.given.inputs.now c.args.given.terms.now c.args.n c.args.below c.if-n-below.false c.if-n-given.false c.in-Input.i c.in-Input.is)) (over_here v c.args.given.inputs.now c.args.given.terms.now c.args.n c.args.below c.if-n-below.false c.if-n-given.false)
+    let small : c.at_or-name.result < 32 = omega (arith, c.at_or-name.ensures, over.small c.in-Input.i) in
+    c.add.ensures values started small whole (ap name c.at_or-name.ensures ∙ sym (over_input v c.args.given.inputs.now c.args.given.terms.now c.args.n c.args.below c.if-n-below.false c.if-n-given.false c.in-Input.i c.in-Input.is)) (over_here v c.args.given.inputs.now c.args.given.terms.now c.args.n c.args.below c.if-n-below.false c.if-n-given.false)
 
 pub returns-in-Zero : goal.returns-in-Zero
 returns-in-Zero t c v over started =
@@ -47,71 +47,71 @@ returns-in-Zero t c v over started =
     let whole = before no_term values c.args.n c.args.below in
     c.add-in-Zero.ensures values started tt whole (sym (over_zero v c.args.given.inputs.now c.args.given.terms.now c.args.n c.args.below c.if-n-below.false c.if-n-given.false c.in-Apply.f (c.in-Apply.is ∙ ap (Apply c.in-Apply.f) c.in-Zero.is))) (over_here v c.args.given.inputs.now c.args.given.terms.now c.args.n c.args.below c.if-n-below.false c.if-n-given.false)
 
-pub returns-in-err-a : goal.returns-in-err-a
-returns-in-err-a t c v over started =
+pub returns-in_err-a-in-One : goal.returns-in_err-a-in-One
+returns-in_err-a-in-One t c v over started =
     let values = terms_over v c.args.given.inputs.now (map term_in c.args.given.terms.now) in
     let whole = before no_term values c.args.n c.args.below in
     let ta = before no_term values c.in-One.a c.args.n in
     let is : whole ≡ unary c.in-Apply.f ta = over_one v c.args.given.inputs.now c.args.given.terms.now c.args.n c.args.below c.if-n-below.false c.if-n-given.false c.in-Apply.f c.in-One.a (c.in-Apply.is ∙ ap (Apply c.in-Apply.f) c.in-One.is) in
     let w₀ = walked_start values v c.args.given.vector.now c.args.given.inputs.now c.args.bank.now c.args.count.now.terms c.args.known.now over started in
-    walked_break values v c.args.given.vector.now c.args.given.inputs.now c.args.bank.now c.args.bank.now c.args.count.now.terms c.args.count.now.terms ([]) c.args.known.now w₀ c.place-below.new.bank c.place-below.new.count.terms ta whole c.place-below.new.known c.place-below.new.known c.in-err-a.field-0.0 c.from-residual.result
-    (λ all u. let p = has_unary all whole ta c.in-Apply.f is u in (p.0, tt)) (c.in-err-a.ensures v w₀.over w₀.started) c.from-residual.ensures.1
+    walked_break values v c.args.given.vector.now c.args.given.inputs.now c.args.bank.now c.args.bank.now c.args.count.now.terms c.args.count.now.terms ([]) c.args.known.now w₀ c.place_below.new.bank c.place_below.new.count.terms ta whole c.place_below.new.known c.place_below.new.known c.in_err-a-in-One.field-0.0 c.from_residual.result
+    (λ all u. let p = has_unary all whole ta c.in-Apply.f is u in (p.0, tt)) (c.in_err-a-in-One.ensures v w₀.over w₀.started) c.from_residual.ensures.1
 
-pub returns-in-ok-a : goal.returns-in-ok-a
-returns-in-ok-a t c v over started =
+pub returns-in_ok-a-in-One : goal.returns-in_ok-a-in-One
+returns-in_ok-a-in-One t c v over started =
     let values = terms_over v c.args.given.inputs.now (map term_in c.args.given.terms.now) in
     let whole = before no_term values c.args.n c.args.below in
     let ta = before no_term values c.in-One.a c.args.n in
     let is : whole ≡ unary c.in-Apply.f ta = over_one v c.args.given.inputs.now c.args.given.terms.now c.args.n c.args.below c.if-n-below.false c.if-n-given.false c.in-Apply.f c.in-One.a (c.in-Apply.is ∙ ap (Apply c.in-Apply.f) c.in-One.is) in
     let w₀ = walked_start values v c.args.given.vector.now c.args.given.inputs.now c.args.bank.now c.args.count.now.terms c.args.known.now over started in
-    let ha = c.in-ok-a.ensures v w₀.over w₀.started in
-    let w₁ = walked_more values v c.args.given.vector.now c.args.given.inputs.now c.args.bank.now c.args.bank.now c.args.count.now.terms c.args.count.now.terms ([]) c.args.known.now w₀ c.place-below.new.bank c.place-below.new.count.terms (ta ∷ []) c.place-below.new.known c.place-below.auto.bank ha.0 ha.1.recalled in
+    let ha = c.in_ok-a-in-One.ensures v w₀.over w₀.started in
+    let w₁ = walked_more values v c.args.given.vector.now c.args.given.inputs.now c.args.bank.now c.args.bank.now c.args.count.now.terms c.args.count.now.terms ([]) c.args.known.now w₀ c.place_below.new.bank c.place_below.new.count.terms (ta ∷ []) c.place_below.new.known c.place_below.auto.bank ha.0 ha.1.recalled in
     let done = c.add-in-One.ensures values w₁.started ha.1.made.0 whole (ap (unary c.in-Apply.f) ha.1.made.1 ∙ sym is) (over_here v c.args.given.inputs.now c.args.given.terms.now c.args.n c.args.below c.if-n-below.false c.if-n-given.false) in
-    walked_placed values v c.args.given.vector.now c.args.given.inputs.now c.args.bank.now c.place-below.new.bank c.args.count.now.terms c.place-below.new.count.terms (ta ∷ []) c.place-below.new.known w₁ c.add-in-One.new.bank c.add-in-One.new.count.terms whole c.add-in-One.new.known c.add-in-One.result (λ all u. has_unary all whole ta c.in-Apply.f is u) done
+    walked_placed values v c.args.given.vector.now c.args.given.inputs.now c.args.bank.now c.place_below.new.bank c.args.count.now.terms c.place_below.new.count.terms (ta ∷ []) c.place_below.new.known w₁ c.add-in-One.new.bank c.add-in-One.new.count.terms whole c.add-in-One.new.known c.add-in-One.result (λ all u. has_unary all whole ta c.in-Apply.f is u) done
 
-pub returns-in-err-a-2 : goal.returns-in-err-a-2
-returns-in-err-a-2 t c v over started =
+pub returns-in_err-a-in-Two : goal.returns-in_err-a-in-Two
+returns-in_err-a-in-Two t c v over started =
     let values = terms_over v c.args.given.inputs.now (map term_in c.args.given.terms.now) in
     let whole = before no_term values c.args.n c.args.below in
     let ta = before no_term values c.in-Two.a c.args.n in
     let tb = before no_term values c.in-Two.b c.args.n in
     let is : whole ≡ binary c.in-Apply.f ta tb = over_two v c.args.given.inputs.now c.args.given.terms.now c.args.n c.args.below c.if-n-below.false c.if-n-given.false c.in-Apply.f c.in-Two.a c.in-Two.b (c.in-Apply.is ∙ ap (Apply c.in-Apply.f) c.in-Two.is) in
     let w₀ = walked_start values v c.args.given.vector.now c.args.given.inputs.now c.args.bank.now c.args.count.now.terms c.args.known.now over started in
-    walked_break values v c.args.given.vector.now c.args.given.inputs.now c.args.bank.now c.args.bank.now c.args.count.now.terms c.args.count.now.terms ([]) c.args.known.now w₀ c.place-below-in-Two.new.bank c.place-below-in-Two.new.count.terms ta whole c.place-below-in-Two.new.known c.place-below-in-Two.new.known c.in-err-a-2.field-0.0 c.from-residual-in-err-a-2.result
-    (λ all u. let p = has_binary all whole ta tb c.in-Apply.f is u in (p.0, tt)) (c.in-err-a-2.ensures v w₀.over w₀.started) c.from-residual-in-err-a-2.ensures.1
+    walked_break values v c.args.given.vector.now c.args.given.inputs.now c.args.bank.now c.args.bank.now c.args.count.now.terms c.args.count.now.terms ([]) c.args.known.now w₀ c.place_below-in-Two.new.bank c.place_below-in-Two.new.count.terms ta whole c.place_below-in-Two.new.known c.place_below-in-Two.new.known c.in_err-a-in-Two.field-0.0 c.from_residual-in_err-a-in-Two.result
+    (λ all u. let p = has_binary all whole ta tb c.in-Apply.f is u in (p.0, tt)) (c.in_err-a-in-Two.ensures v w₀.over w₀.started) c.from_residual-in_err-a-in-Two.ensures.1
 
-pub returns-in-err-b : goal.returns-in-err-b
-returns-in-err-b t c v over started =
+pub returns-in_err-b-in-Two : goal.returns-in_err-b-in-Two
+returns-in_err-b-in-Two t c v over started =
     let values = terms_over v c.args.given.inputs.now (map term_in c.args.given.terms.now) in
     let whole = before no_term values c.args.n c.args.below in
     let ta = before no_term values c.in-Two.a c.args.n in
     let tb = before no_term values c.in-Two.b c.args.n in
     let is : whole ≡ binary c.in-Apply.f ta tb = over_two v c.args.given.inputs.now c.args.given.terms.now c.args.n c.args.below c.if-n-below.false c.if-n-given.false c.in-Apply.f c.in-Two.a c.in-Two.b (c.in-Apply.is ∙ ap (Apply c.in-Apply.f) c.in-Two.is) in
     let w₀ = walked_start values v c.args.given.vector.now c.args.given.inputs.now c.args.bank.now c.args.count.now.terms c.args.known.now over started in
-    let ha = c.in-ok-a-2.ensures v w₀.over w₀.started in
-    let w₁ = walked_more values v c.args.given.vector.now c.args.given.inputs.now c.args.bank.now c.args.bank.now c.args.count.now.terms c.args.count.now.terms ([]) c.args.known.now w₀ c.place-below-in-Two.new.bank c.place-below-in-Two.new.count.terms (ta ∷ []) c.place-below-in-Two.new.known c.place-below-in-Two.auto.bank ha.0 ha.1.recalled in
-    walked_break values v c.args.given.vector.now c.args.given.inputs.now c.args.bank.now c.place-below-in-Two.new.bank c.args.count.now.terms c.place-below-in-Two.new.count.terms (ta ∷ []) c.place-below-in-Two.new.known w₁ c.place-below-in-Two-2.new.bank c.place-below-in-Two-2.new.count.terms tb whole c.place-below-in-Two-2.new.known c.place-below-in-Two-2.new.known c.in-err-b.field-0.0 c.from-residual-in-err-b.result
-    (λ all u. let p = has_binary all whole ta tb c.in-Apply.f is u in (p.0, (p.1.0, tt))) (c.in-err-b.ensures v w₁.over w₁.started) c.from-residual-in-err-b.ensures.1
+    let ha = c.in_ok-a-in-Two.ensures v w₀.over w₀.started in
+    let w₁ = walked_more values v c.args.given.vector.now c.args.given.inputs.now c.args.bank.now c.args.bank.now c.args.count.now.terms c.args.count.now.terms ([]) c.args.known.now w₀ c.place_below-in-Two.new.bank c.place_below-in-Two.new.count.terms (ta ∷ []) c.place_below-in-Two.new.known c.place_below-in-Two.auto.bank ha.0 ha.1.recalled in
+    walked_break values v c.args.given.vector.now c.args.given.inputs.now c.args.bank.now c.place_below-in-Two.new.bank c.args.count.now.terms c.place_below-in-Two.new.count.terms (ta ∷ []) c.place_below-in-Two.new.known w₁ c.place_below-in-Two-2.new.bank c.place_below-in-Two-2.new.count.terms tb whole c.place_below-in-Two-2.new.known c.place_below-in-Two-2.new.known c.in_err-b-in-Two.field-0.0 c.from_residual-in_err-b-in-Two.result
+    (λ all u. let p = has_binary all whole ta tb c.in-Apply.f is u in (p.0, (p.1.0, tt))) (c.in_err-b-in-Two.ensures v w₁.over w₁.started) c.from_residual-in_err-b-in-Two.ensures.1
 
-pub returns-in-ok-b : goal.returns-in-ok-b
-returns-in-ok-b t c v over started =
+pub returns-in_ok-b-in-Two : goal.returns-in_ok-b-in-Two
+returns-in_ok-b-in-Two t c v over started =
     let values = terms_over v c.args.given.inputs.now (map term_in c.args.given.terms.now) in
     let whole = before no_term values c.args.n c.args.below in
     let ta = before no_term values c.in-Two.a c.args.n in
     let tb = before no_term values c.in-Two.b c.args.n in
     let is : whole ≡ binary c.in-Apply.f ta tb = over_two v c.args.given.inputs.now c.args.given.terms.now c.args.n c.args.below c.if-n-below.false c.if-n-given.false c.in-Apply.f c.in-Two.a c.in-Two.b (c.in-Apply.is ∙ ap (Apply c.in-Apply.f) c.in-Two.is) in
     let w₀ = walked_start values v c.args.given.vector.now c.args.given.inputs.now c.args.bank.now c.args.count.now.terms c.args.known.now over started in
-    let ha = c.in-ok-a-2.ensures v w₀.over w₀.started in
-    let w₁ = walked_more values v c.args.given.vector.now c.args.given.inputs.now c.args.bank.now c.args.bank.now c.args.count.now.terms c.args.count.now.terms ([]) c.args.known.now w₀ c.place-below-in-Two.new.bank c.place-below-in-Two.new.count.terms (ta ∷ []) c.place-below-in-Two.new.known c.place-below-in-Two.auto.bank ha.0 ha.1.recalled in
-    let hb = c.in-ok-b.ensures v w₁.over w₁.started in
-    let w₂ = walked_more values v c.args.given.vector.now c.args.given.inputs.now c.args.bank.now c.place-below-in-Two.new.bank c.args.count.now.terms c.place-below-in-Two.new.count.terms (ta ∷ []) c.place-below-in-Two.new.known w₁ c.place-below-in-Two-2.new.bank c.place-below-in-Two-2.new.count.terms (tb ∷ []) c.place-below-in-Two-2.new.known c.place-below-in-Two-2.auto.bank hb.0 hb.1.recalled in
+    let ha = c.in_ok-a-in-Two.ensures v w₀.over w₀.started in
+    let w₁ = walked_more values v c.args.given.vector.now c.args.given.inputs.now c.args.bank.now c.args.bank.now c.args.count.now.terms c.args.count.now.terms ([]) c.args.known.now w₀ c.place_below-in-Two.new.bank c.place_below-in-Two.new.count.terms (ta ∷ []) c.place_below-in-Two.new.known c.place_below-in-Two.auto.bank ha.0 ha.1.recalled in
+    let hb = c.in_ok-b-in-Two.ensures v w₁.over w₁.started in
+    let w₂ = walked_more values v c.args.given.vector.now c.args.given.inputs.now c.args.bank.now c.place_below-in-Two.new.bank c.args.count.now.terms c.place_below-in-Two.new.count.terms (ta ∷ []) c.place_below-in-Two.new.known w₁ c.place_below-in-Two-2.new.bank c.place_below-in-Two-2.new.count.terms (tb ∷ []) c.place_below-in-Two-2.new.known c.place_below-in-Two-2.auto.bank hb.0 hb.1.recalled in
     let xb = hb.0.extends in
-    let ina : c.in-ok-a-2.a < c.place-below-in-Two-2.new.count.terms = omega (arith, ha.1.made.0, xb.more) in
-    let done = c.add-in-Two.ensures values w₂.started (ina, hb.1.made.0) whole (ap₂ (binary c.in-Apply.f) ((xb.stays c.in-ok-a-2.a ha.1.made.0).1 ∙ ha.1.made.1) hb.1.made.1 ∙ sym is) (over_here v c.args.given.inputs.now c.args.given.terms.now c.args.n c.args.below c.if-n-below.false c.if-n-given.false) in
-    walked_placed values v c.args.given.vector.now c.args.given.inputs.now c.args.bank.now c.place-below-in-Two-2.new.bank c.args.count.now.terms c.place-below-in-Two-2.new.count.terms (ta ∷ tb ∷ []) c.place-below-in-Two-2.new.known w₂ c.add-in-Two.new.bank c.add-in-Two.new.count.terms whole c.add-in-Two.new.known c.add-in-Two.result (λ all u. has_binary all whole ta tb c.in-Apply.f is u) done
+    let ina : c.in_ok-a-in-Two.a < c.place_below-in-Two-2.new.count.terms = omega (arith, ha.1.made.0, xb.more) in
+    let done = c.add-in-Two.ensures values w₂.started (ina, hb.1.made.0) whole (ap₂ (binary c.in-Apply.f) ((xb.stays c.in_ok-a-in-Two.a ha.1.made.0).1 ∙ ha.1.made.1) hb.1.made.1 ∙ sym is) (over_here v c.args.given.inputs.now c.args.given.terms.now c.args.n c.args.below c.if-n-below.false c.if-n-given.false) in
+    walked_placed values v c.args.given.vector.now c.args.given.inputs.now c.args.bank.now c.place_below-in-Two-2.new.bank c.args.count.now.terms c.place_below-in-Two-2.new.count.terms (ta ∷ tb ∷ []) c.place_below-in-Two-2.new.known w₂ c.add-in-Two.new.bank c.add-in-Two.new.count.terms whole c.add-in-Two.new.known c.add-in-Two.result (λ all u. has_binary all whole ta tb c.in-Apply.f is u) done
 
-pub returns-in-err-a-3 : goal.returns-in-err-a-3
-returns-in-err-a-3 t c v over started =
+pub returns-in_err-a-in-Three : goal.returns-in_err-a-in-Three
+returns-in_err-a-in-Three t c v over started =
     let values = terms_over v c.args.given.inputs.now (map term_in c.args.given.terms.now) in
     let whole = before no_term values c.args.n c.args.below in
     let ta = before no_term values c.in-Three.a c.args.n in
@@ -119,11 +119,11 @@ returns-in-err-a-3 t c v over started =
     let tc = before no_term values c.in-Three.c c.args.n in
     let is : whole ≡ ternary c.in-Apply.f ta tb tc = over_three v c.args.given.inputs.now c.args.given.terms.now c.args.n c.args.below c.if-n-below.false c.if-n-given.false c.in-Apply.f c.in-Three.a c.in-Three.b c.in-Three.c (c.in-Apply.is ∙ ap (Apply c.in-Apply.f) c.in-Three.is) in
     let w₀ = walked_start values v c.args.given.vector.now c.args.given.inputs.now c.args.bank.now c.args.count.now.terms c.args.known.now over started in
-    walked_break values v c.args.given.vector.now c.args.given.inputs.now c.args.bank.now c.args.bank.now c.args.count.now.terms c.args.count.now.terms ([]) c.args.known.now w₀ c.place-below-in-Three.new.bank c.place-below-in-Three.new.count.terms ta whole c.place-below-in-Three.new.known c.place-below-in-Three.new.known c.in-err-a-3.field-0.0 c.from-residual-in-err-a-3.result
-    (λ all u. let p = has_ternary all whole ta tb tc c.in-Apply.f is u in (p.0, tt)) (c.in-err-a-3.ensures v w₀.over w₀.started) c.from-residual-in-err-a-3.ensures.1
+    walked_break values v c.args.given.vector.now c.args.given.inputs.now c.args.bank.now c.args.bank.now c.args.count.now.terms c.args.count.now.terms ([]) c.args.known.now w₀ c.place_below-in-Three.new.bank c.place_below-in-Three.new.count.terms ta whole c.place_below-in-Three.new.known c.place_below-in-Three.new.known c.in_err-a-in-Three.field-0.0 c.from_residual-in_err-a-in-Three.result
+    (λ all u. let p = has_ternary all whole ta tb tc c.in-Apply.f is u in (p.0, tt)) (c.in_err-a-in-Three.ensures v w₀.over w₀.started) c.from_residual-in_err-a-in-Three.ensures.1
 
-pub returns-in-err-b-2 : goal.returns-in-err-b-2
-returns-in-err-b-2 t c v over started =
+pub returns-in_err-b-in-Three : goal.returns-in_err-b-in-Three
+returns-in_err-b-in-Three t c v over started =
     let values = terms_over v c.args.given.inputs.now (map term_in c.args.given.terms.now) in
     let whole = before no_term values c.args.n c.args.below in
     let ta = before no_term values c.in-Three.a c.args.n in
@@ -131,13 +131,13 @@ returns-in-err-b-2 t c v over started =
     let tc = before no_term values c.in-Three.c c.args.n in
     let is : whole ≡ ternary c.in-Apply.f ta tb tc = over_three v c.args.given.inputs.now c.args.given.terms.now c.args.n c.args.below c.if-n-below.false c.if-n-given.false c.in-Apply.f c.in-Three.a c.in-Three.b c.in-Three.c (c.in-Apply.is ∙ ap (Apply c.in-Apply.f) c.in-Three.is) in
     let w₀ = walked_start values v c.args.given.vector.now c.args.given.inputs.now c.args.bank.now c.args.count.now.terms c.args.known.now over started in
-    let ha = c.in-ok-a-3.ensures v w₀.over w₀.started in
-    let w₁ = walked_more values v c.args.given.vector.now c.args.given.inputs.now c.args.bank.now c.args.bank.now c.args.count.now.terms c.args.count.now.terms ([]) c.args.known.now w₀ c.place-below-in-Three.new.bank c.place-below-in-Three.new.count.terms (ta ∷ []) c.place-below-in-Three.new.known c.place-below-in-Three.auto.bank ha.0 ha.1.recalled in
-    walked_break values v c.args.given.vector.now c.args.given.inputs.now c.args.bank.now c.place-below-in-Three.new.bank c.args.count.now.terms c.place-below-in-Three.new.count.terms (ta ∷ []) c.place-below-in-Three.new.known w₁ c.place-below-in-Three-2.new.bank c.place-below-in-Three-2.new.count.terms tb whole c.place-below-in-Three-2.new.known c.place-below-in-Three-2.new.known c.in-err-b-2.field-0.0 c.from-residual-in-err-b-2.result
-    (λ all u. let p = has_ternary all whole ta tb tc c.in-Apply.f is u in (p.0, (p.1.0, tt))) (c.in-err-b-2.ensures v w₁.over w₁.started) c.from-residual-in-err-b-2.ensures.1
+    let ha = c.in_ok-a-in-Three.ensures v w₀.over w₀.started in
+    let w₁ = walked_more values v c.args.given.vector.now c.args.given.inputs.now c.args.bank.now c.args.bank.now c.args.count.now.terms c.args.count.now.terms ([]) c.args.known.now w₀ c.place_below-in-Three.new.bank c.place_below-in-Three.new.count.terms (ta ∷ []) c.place_below-in-Three.new.known c.place_below-in-Three.auto.bank ha.0 ha.1.recalled in
+    walked_break values v c.args.given.vector.now c.args.given.inputs.now c.args.bank.now c.place_below-in-Three.new.bank c.args.count.now.terms c.place_below-in-Three.new.count.terms (ta ∷ []) c.place_below-in-Three.new.known w₁ c.place_below-in-Three-2.new.bank c.place_below-in-Three-2.new.count.terms tb whole c.place_below-in-Three-2.new.known c.place_below-in-Three-2.new.known c.in_err-b-in-Three.field-0.0 c.from_residual-in_err-b-in-Three.result
+    (λ all u. let p = has_ternary all whole ta tb tc c.in-Apply.f is u in (p.0, (p.1.0, tt))) (c.in_err-b-in-Three.ensures v w₁.over w₁.started) c.from_residual-in_err-b-in-Three.ensures.1
 
-pub returns-in-err-c : goal.returns-in-err-c
-returns-in-err-c t c v over started =
+pub returns-in_err-c-in-Three : goal.returns-in_err-c-in-Three
+returns-in_err-c-in-Three t c v over started =
     let values = terms_over v c.args.given.inputs.now (map term_in c.args.given.terms.now) in
     let whole = before no_term values c.args.n c.args.below in
     let ta = before no_term values c.in-Three.a c.args.n in
@@ -145,15 +145,15 @@ returns-in-err-c t c v over started =
     let tc = before no_term values c.in-Three.c c.args.n in
     let is : whole ≡ ternary c.in-Apply.f ta tb tc = over_three v c.args.given.inputs.now c.args.given.terms.now c.args.n c.args.below c.if-n-below.false c.if-n-given.false c.in-Apply.f c.in-Three.a c.in-Three.b c.in-Three.c (c.in-Apply.is ∙ ap (Apply c.in-Apply.f) c.in-Three.is) in
     let w₀ = walked_start values v c.args.given.vector.now c.args.given.inputs.now c.args.bank.now c.args.count.now.terms c.args.known.now over started in
-    let ha = c.in-ok-a-3.ensures v w₀.over w₀.started in
-    let w₁ = walked_more values v c.args.given.vector.now c.args.given.inputs.now c.args.bank.now c.args.bank.now c.args.count.now.terms c.args.count.now.terms ([]) c.args.known.now w₀ c.place-below-in-Three.new.bank c.place-below-in-Three.new.count.terms (ta ∷ []) c.place-below-in-Three.new.known c.place-below-in-Three.auto.bank ha.0 ha.1.recalled in
-    let hb = c.in-ok-b-2.ensures v w₁.over w₁.started in
-    let w₂ = walked_more values v c.args.given.vector.now c.args.given.inputs.now c.args.bank.now c.place-below-in-Three.new.bank c.args.count.now.terms c.place-below-in-Three.new.count.terms (ta ∷ []) c.place-below-in-Three.new.known w₁ c.place-below-in-Three-2.new.bank c.place-below-in-Three-2.new.count.terms (tb ∷ []) c.place-below-in-Three-2.new.known c.place-below-in-Three-2.auto.bank hb.0 hb.1.recalled in
-    walked_break values v c.args.given.vector.now c.args.given.inputs.now c.args.bank.now c.place-below-in-Three-2.new.bank c.args.count.now.terms c.place-below-in-Three-2.new.count.terms (ta ∷ tb ∷ []) c.place-below-in-Three-2.new.known w₂ c.place-below-in-Three-3.new.bank c.place-below-in-Three-3.new.count.terms tc whole c.place-below-in-Three-3.new.known c.place-below-in-Three-3.new.known c.in-err-c.field-0.0 c.from-residual-in-err-c.result
-    (λ all u. let p = has_ternary all whole ta tb tc c.in-Apply.f is u in (p.0, (p.1.0, (p.1.1.0, tt)))) (c.in-err-c.ensures v w₂.over w₂.started) c.from-residual-in-err-c.ensures.1
+    let ha = c.in_ok-a-in-Three.ensures v w₀.over w₀.started in
+    let w₁ = walked_more values v c.args.given.vector.now c.args.given.inputs.now c.args.bank.now c.args.bank.now c.args.count.now.terms c.args.count.now.terms ([]) c.args.known.now w₀ c.place_below-in-Three.new.bank c.place_below-in-Three.new.count.terms (ta ∷ []) c.place_below-in-Three.new.known c.place_below-in-Three.auto.bank ha.0 ha.1.recalled in
+    let hb = c.in_ok-b-in-Three.ensures v w₁.over w₁.started in
+    let w₂ = walked_more values v c.args.given.vector.now c.args.given.inputs.now c.args.bank.now c.place_below-in-Three.new.bank c.args.count.now.terms c.place_below-in-Three.new.count.terms (ta ∷ []) c.place_below-in-Three.new.known w₁ c.place_below-in-Three-2.new.bank c.place_below-in-Three-2.new.count.terms (tb ∷ []) c.place_below-in-Three-2.new.known c.place_below-in-Three-2.auto.bank hb.0 hb.1.recalled in
+    walked_break values v c.args.given.vector.now c.args.given.inputs.now c.args.bank.now c.place_below-in-Three-2.new.bank c.args.count.now.terms c.place_below-in-Three-2.new.count.terms (ta ∷ tb ∷ []) c.place_below-in-Three-2.new.known w₂ c.place_below-in-Three-3.new.bank c.place_below-in-Three-3.new.count.terms tc whole c.place_below-in-Three-3.new.known c.place_below-in-Three-3.new.known c.in_err-c-in-Three.field-0.0 c.from_residual-in_err-c-in-Three.result
+    (λ all u. let p = has_ternary all whole ta tb tc c.in-Apply.f is u in (p.0, (p.1.0, (p.1.1.0, tt)))) (c.in_err-c-in-Three.ensures v w₂.over w₂.started) c.from_residual-in_err-c-in-Three.ensures.1
 
-pub returns-in-ok-c : goal.returns-in-ok-c
-returns-in-ok-c t c v over started =
+pub returns-in_ok-c-in-Three : goal.returns-in_ok-c-in-Three
+returns-in_ok-c-in-Three t c v over started =
     let values = terms_over v c.args.given.inputs.now (map term_in c.args.given.terms.now) in
     let whole = before no_term values c.args.n c.args.below in
     let ta = before no_term values c.in-Three.a c.args.n in
@@ -161,16 +161,16 @@ returns-in-ok-c t c v over started =
     let tc = before no_term values c.in-Three.c c.args.n in
     let is : whole ≡ ternary c.in-Apply.f ta tb tc = over_three v c.args.given.inputs.now c.args.given.terms.now c.args.n c.args.below c.if-n-below.false c.if-n-given.false c.in-Apply.f c.in-Three.a c.in-Three.b c.in-Three.c (c.in-Apply.is ∙ ap (Apply c.in-Apply.f) c.in-Three.is) in
     let w₀ = walked_start values v c.args.given.vector.now c.args.given.inputs.now c.args.bank.now c.args.count.now.terms c.args.known.now over started in
-    let ha = c.in-ok-a-3.ensures v w₀.over w₀.started in
-    let w₁ = walked_more values v c.args.given.vector.now c.args.given.inputs.now c.args.bank.now c.args.bank.now c.args.count.now.terms c.args.count.now.terms ([]) c.args.known.now w₀ c.place-below-in-Three.new.bank c.place-below-in-Three.new.count.terms (ta ∷ []) c.place-below-in-Three.new.known c.place-below-in-Three.auto.bank ha.0 ha.1.recalled in
-    let hb = c.in-ok-b-2.ensures v w₁.over w₁.started in
-    let w₂ = walked_more values v c.args.given.vector.now c.args.given.inputs.now c.args.bank.now c.place-below-in-Three.new.bank c.args.count.now.terms c.place-below-in-Three.new.count.terms (ta ∷ []) c.place-below-in-Three.new.known w₁ c.place-below-in-Three-2.new.bank c.place-below-in-Three-2.new.count.terms (tb ∷ []) c.place-below-in-Three-2.new.known c.place-below-in-Three-2.auto.bank hb.0 hb.1.recalled in
-    let hc = c.in-ok-c.ensures v w₂.over w₂.started in
-    let w₃ = walked_more values v c.args.given.vector.now c.args.given.inputs.now c.args.bank.now c.place-below-in-Three-2.new.bank c.args.count.now.terms c.place-below-in-Three-2.new.count.terms (ta ∷ tb ∷ []) c.place-below-in-Three-2.new.known w₂ c.place-below-in-Three-3.new.bank c.place-below-in-Three-3.new.count.terms (tc ∷ []) c.place-below-in-Three-3.new.known c.place-below-in-Three-3.auto.bank hc.0 hc.1.recalled in
+    let ha = c.in_ok-a-in-Three.ensures v w₀.over w₀.started in
+    let w₁ = walked_more values v c.args.given.vector.now c.args.given.inputs.now c.args.bank.now c.args.bank.now c.args.count.now.terms c.args.count.now.terms ([]) c.args.known.now w₀ c.place_below-in-Three.new.bank c.place_below-in-Three.new.count.terms (ta ∷ []) c.place_below-in-Three.new.known c.place_below-in-Three.auto.bank ha.0 ha.1.recalled in
+    let hb = c.in_ok-b-in-Three.ensures v w₁.over w₁.started in
+    let w₂ = walked_more values v c.args.given.vector.now c.args.given.inputs.now c.args.bank.now c.place_below-in-Three.new.bank c.args.count.now.terms c.place_below-in-Three.new.count.terms (ta ∷ []) c.place_below-in-Three.new.known w₁ c.place_below-in-Three-2.new.bank c.place_below-in-Three-2.new.count.terms (tb ∷ []) c.place_below-in-Three-2.new.known c.place_below-in-Three-2.auto.bank hb.0 hb.1.recalled in
+    let hc = c.in_ok-c-in-Three.ensures v w₂.over w₂.started in
+    let w₃ = walked_more values v c.args.given.vector.now c.args.given.inputs.now c.args.bank.now c.place_below-in-Three-2.new.bank c.args.count.now.terms c.place_below-in-Three-2.new.count.terms (ta ∷ tb ∷ []) c.place_below-in-Three-2.new.known w₂ c.place_below-in-Three-3.new.bank c.place_below-in-Three-3.new.count.terms (tc ∷ []) c.place_below-in-Three-3.new.known c.place_below-in-Three-3.auto.bank hc.0 hc.1.recalled in
     let xb = hb.0.extends in
     let xc = hc.0.extends in
-    let inb : c.in-ok-b-2.b < c.place-below-in-Three-3.new.count.terms = omega (arith, hb.1.made.0, xc.more) in
-    let ina₁ : c.in-ok-a-3.a < c.place-below-in-Three-2.new.count.terms = omega (arith, ha.1.made.0, xb.more) in
-    let ina : c.in-ok-a-3.a < c.place-below-in-Three-3.new.count.terms = omega (arith, xc.more) in
-    let done = c.add-in-Three.ensures values w₃.started (ina, inb, hc.1.made.0) whole (ternary_same c.in-Apply.f ((xc.stays c.in-ok-a-3.a ina₁).1 ∙ ((xb.stays c.in-ok-a-3.a ha.1.made.0).1 ∙ ha.1.made.1)) ((xc.stays c.in-ok-b-2.b hb.1.made.0).1 ∙ hb.1.made.1) hc.1.made.1 ∙ sym is) (over_here v c.args.given.inputs.now c.args.given.terms.now c.args.n c.args.below c.if-n-below.false c.if-n-given.false) in
-    walked_placed values v c.args.given.vector.now c.args.given.inputs.now c.args.bank.now c.place-below-in-Three-3.new.bank c.args.count.now.terms c.place-below-in-Three-3.new.count.terms (ta ∷ tb ∷ tc ∷ []) c.place-below-in-Three-3.new.known w₃ c.add-in-Three.new.bank c.add-in-Three.new.count.terms whole c.add-in-Three.new.known c.add-in-Three.result (λ all u. has_ternary all whole ta tb tc c.in-Apply.f is u) done
+    let inb : c.in_ok-b-in-Three.b < c.place_below-in-Three-3.new.count.terms = omega (arith, hb.1.made.0, xc.more) in
+    let ina₁ : c.in_ok-a-in-Three.a < c.place_below-in-Three-2.new.count.terms = omega (arith, ha.1.made.0, xb.more) in
+    let ina : c.in_ok-a-in-Three.a < c.place_below-in-Three-3.new.count.terms = omega (arith, xc.more) in
+    let done = c.add-in-Three.ensures values w₃.started (ina, inb, hc.1.made.0) whole (ternary_same c.in-Apply.f ((xc.stays c.in_ok-a-in-Three.a ina₁).1 ∙ ((xb.stays c.in_ok-a-in-Three.a ha.1.made.0).1 ∙ ha.1.made.1)) ((xc.stays c.in_ok-b-in-Three.b hb.1.made.0).1 ∙ hb.1.made.1) hc.1.made.1 ∙ sym is) (over_here v c.args.given.inputs.now c.args.given.terms.now c.args.n c.args.below c.if-n-below.false c.if-n-given.false) in
+    walked_placed values v c.args.given.vector.now c.args.given.inputs.now c.args.bank.now c.place_below-in-Three-3.new.bank c.args.count.now.terms c.place_below-in-Three-3.new.count.terms (ta ∷ tb ∷ tc ∷ []) c.place_below-in-Three-3.new.known w₃ c.add-in-Three.new.bank c.add-in-Three.new.count.terms whole c.add-in-Three.new.known c.add-in-Three.result (λ all u. has_ternary all whole ta tb tc c.in-Apply.f is u) done

@@ -8,4 +8,4 @@ use Rattle.candidates.proofs.instantiating.place_of.Goals as goal
 pub returns : goal.returns
 returns c v over started =
     let values = terms_over v c.args.given.inputs.now (map term_in c.args.given.terms.now) in
-    subst (λ x. Placed values c.args.bank.now c.args.count.now.terms x c.place-below.new.bank c.place-below.new.count.terms c.place-below.new.known c.place-below.result) (over_all v c.args.given.inputs.now c.args.given.terms.now c.args.n) (c.place-below.ensures v over started)
+    subst (λ x. Placed values c.args.bank.now c.args.count.now.terms x c.place_below.new.bank c.place_below.new.count.terms c.place_below.new.known c.place_below.result) (over_all v c.args.given.inputs.now c.args.given.terms.now c.args.n) (c.place_below.ensures v over started)

@@ -10,12 +10,12 @@ use Rattle.candidates.proofs.naming.input_names.Goals as goal
 pub loop-i-init : goal.loop-i-init
 loop-i-init c = (refl, zeros-small 4, named_start c.args.inputs (is_in c.args.taken))
 
-pub returns-in-default : goal.returns-in-default
-returns-in-default c =
+pub returns-in_default : goal.returns-in_default
+returns-in_default c =
     let m : c.args.inputs - c.loop-i.i ≡ suc (c.args.inputs - (c.loop-i.i + 1)) = omega arith in
     c.loop-i.invariant.2
     ∙ (ap (λ k. or_none (names_for k (is_in c.loop-i.names)) (λ ys. Some (take c.loop-i.i c.loop-i.out ++ ys))) m
-    ∙ named_none (c.args.inputs - (c.loop-i.i + 1)) c.loop-i.names (take c.loop-i.i c.loop-i.out) (sym c.in-default.ensures))
+    ∙ named_none (c.args.inputs - (c.loop-i.i + 1)) c.loop-i.names (take c.loop-i.i c.loop-i.out) (sym c.in_default.ensures))
 
 pub loop-i-preserved : goal.loop-i-preserved
 loop-i-preserved c =

@@ -16,7 +16,7 @@ returns c =
     filled_all false c.truths.new.out right (λ k lt. c.truths.ensures k (omega arith)) (omega (arith, few_formulas s law, grow-length (truth_of c.args.bits.now c.args.answers.now []) [] s.formulas)) in
     let to : ◌≡◌ {A = ℕ → Bool} (λ f. get_or c.truths.new.out f false) (λ f. get_or right f false) = fun_ext all in
     let some = chosen (λ f. get_or c.truths.new.out f false) s.choices in
-    let picked = filled_all 0 c.terms-of-choices.new.out some (λ k lt. c.terms-of-choices.ensures k (omega arith)) (omega (arith, few_choices s law, grow-length (term_of_choice (λ f. get_or c.truths.new.out f false)) [] s.choices)) in
+    let picked = filled_all 0 c.terms_of_choices.new.out some (λ k lt. c.terms_of_choices.ensures k (omega arith)) (omega (arith, few_choices s law, grow-length (term_of_choice (λ f. get_or c.truths.new.out f false)) [] s.choices)) in
     record {
       truths = all;
       chosen = λ k. picked k ∙ ap (λ (t : ℕ → Bool). get_or (chosen t s.choices) k 0) to;

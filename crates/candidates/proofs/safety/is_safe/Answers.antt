@@ -6,8 +6,8 @@ pub judge-result-requires : goal.judge-result-requires
 judge-result-requires c =
     record {
       claims = few_claims (sheet_of c.args.sheet.now) c.args.sheet.now.lawful;
-      sound = c.is-sound.ensures.0 c.if-not-is-sound.false;
-      labelled = c.if-labels-lt-MOST-TERMS.false;
+      sound = c.is_sound.ensures.0 c.if-not-is_sound.false;
+      labelled = c.if-labels-lt-MOST_TERMS.false;
     }
 
 pub returns : goal.returns
@@ -18,6 +18,6 @@ returns c =
     let lawful = c.args.sheet.now.lawful in
     let n = c.args.count.now.terms in
     record {
-      judged = judged_by s lawful rs n form c.args.labels.now (record { sound = c.is-sound.ensures.0 c.if-not-is-sound.false; labelled = c.if-labels-lt-MOST-TERMS.false }) c.judge-result.new.bank c.judge-result.new.count.terms c.judge-result.result c.judge-result.ensures;
+      judged = judged_by s lawful rs n form c.args.labels.now (record { sound = c.is_sound.ensures.0 c.if-not-is_sound.false; labelled = c.if-labels-lt-MOST_TERMS.false }) c.judge-result.new.bank c.judge-result.new.count.terms c.judge-result.result c.judge-result.ensures;
       kept = kept_after s lawful rs n form c.judge-result.new.bank c.judge-result.new.count.terms c.judge-result.result c.judge-result.ensures;
     }

@@ -1,4 +1,4 @@
-use Rattle.std.proofs.Common.{◌^◌, ◌<◌, ◌≤◌, true, false, length, sym, ◌∙◌, subst, arith, below_more}
+use Rattle.std.proofs.Common.{◌^◌, ◌<◌, ◌≤◌, length, sym, ◌∙◌, subst, arith, below_more}
 use Rattle.std.proofs.lemmas.Bool.{true≢false}
 use Rattle.sheet.specs.View.{sheet_of}
 use Rattle.candidates.specs.Cases.{Breaks}
@@ -8,13 +8,13 @@ use Rattle.candidates.proofs.safety.is_unbroken.Goals as goal
 pub loop-case-preserved : goal.loop-case-preserved
 loop-case-preserved c form laid bits labelled =
     let s = sheet_of c.args.sheet.now in
-    let no' : Breaks s form c.loop-case.case → ⊥ = λ breaks. true≢false (sym ((c.in-ok-is-breaking.ensures form laid bits (omega (arith, c.loop-case.auto.labels))).1 breaks) ∙ c.if-branch.false) in
+    let no' : Breaks s form c.loop-case.case → ⊥ = λ breaks. true≢false (sym ((c.in_ok-is_breaking.ensures form laid bits (omega (arith, c.loop-case.auto.labels))).1 breaks) ∙ c.if-branch.false) in
     below_more (λ b. Breaks s form b → ⊥) c.loop-case.case (c.loop-case.invariant form laid bits labelled) no'
 
 pub returns : goal.returns
 returns c form laid bits labelled breaking =
-    let k = length c.as-slice.result.now in
-    let is = c.as-slice.ensures.value in
+    let k = length c.as_slice.result.now in
+    let is = c.as_slice.ensures.value in
     let few : k ≤ 4 = subst (λ xs. length xs ≤ 4) (sym is) c.requires.claims in
     let end : 2 ^ k ≤ c.loop-case.case = subst (λ m. m ≤ c.loop-case.case) (shifted k few) c.loop-case-test.false in
     let inside : breaking.claims < 2 ^ k = subst (λ xs. breaking.claims < 2 ^ length xs) (sym is) breaking.within in

@@ -14,10 +14,10 @@ pub loop-k-preserved : goal.loop-k-preserved
 loop-k-preserved c =
     let k = c.loop-k.k in
     let old = get_or c.loop-k.list k no_condition in
-    let x : Condition = record { left = old.left; right = old.right; sign = c.sign-of.result } in
+    let x : Condition = record { left = old.left; right = old.right; sign = c.sign_of.result } in
     let inside : k < length c.loop-k.list = omega (arith, c.loop-k.invariant.0, c.loop-k-test.true, c.requires) in (
       length-set c.loop-k.list k x ∙ c.loop-k.invariant.0,
-      set_more (λ j y. y ≡ with_answer (get_or c.args.list j no_condition) (get_or c.args.answers.now j false)) c.loop-k.list k x no_condition inside c.loop-k.invariant.1 (answered old (get_or c.args.list k no_condition) c.sign-of.result (get_or c.args.answers.now k false) (c.loop-k.invariant.2 k (omega arith)) c.sign-of.ensures),
+      set_more (λ j y. y ≡ with_answer (get_or c.args.list j no_condition) (get_or c.args.answers.now j false)) c.loop-k.list k x no_condition inside c.loop-k.invariant.1 (answered old (get_or c.args.list k no_condition) c.sign_of.result (get_or c.args.answers.now k false) (c.loop-k.invariant.2 k (omega arith)) c.sign_of.ensures),
       λ j le. get_or-set_other c.loop-k.list k j x no_condition (λ e. omega arith) ∙ c.loop-k.invariant.2 j (omega arith),
     )
 

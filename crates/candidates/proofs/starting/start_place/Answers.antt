@@ -1,6 +1,5 @@
 use Rattle.std.proofs.Common.{[], sym, ap, subst}
 use Rattle.terms.specs.declared.Node.TheVariants.{Name, Constant}
-use Rattle.terms.specs.Terms.{name}
 use Rattle.forms.specs.Rows.{start_term}
 use Rattle.candidates.specs.Working.{Named}
 use Rattle.candidates.proofs.Walking.{placed_interned}

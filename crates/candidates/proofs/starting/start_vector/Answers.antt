@@ -12,8 +12,8 @@ use Rattle.candidates.proofs.starting.start_vector.Goals as goal
 pub loop-k-init : goal.loop-k-init
 loop-k-init c = (refl, λ started named. (walked_start [] [] [] [] c.args.bank.now c.args.count.now.terms [] (over_nothing c.args.bank.now c.args.count.now.terms) started, λ k lt. absurd (omega arith)))
 
-pub returns-in-err-out : goal.returns-in-err-out
-returns-in-err-out c started named =
+pub returns-in_err-out : goal.returns-in_err-out
+returns-in_err-out c started named =
     let all = map start_of c.args.readings.now in
     let k = c.loop-k.k in
     let inside : k < length c.args.readings.now = c.loop-k-test.true in
@@ -21,13 +21,13 @@ returns-in-err-out c started named =
     let t = start_of (get_or c.args.readings.now k no_reading) in
     let is : t ≡ get_or all k no_term = sym (get_or-map start_of c.args.readings.now k no_reading no_term inside) in
     let w = c.loop-k.invariant.1 started named in
-    let x = c.in-err-out.ensures w.0.started (named k inside) in
-    added_break c.args.bank.now c.args.count.now.terms all c.start-place.new.bank c.start-place.new.count.terms _ c.in-err-out.field-0.0 c.from-residual.result x.0
-    (placed_break [] [] [] [] c.args.bank.now c.args.count.now.terms k c.loop-k.bank c.loop-k.count.terms [] c.start-place.new.bank c.start-place.new.count.terms [] all t inside' is w.0 x.1 x.2) c.from-residual.ensures.1
+    let x = c.in_err-out.ensures w.0.started (named k inside) in
+    added_break c.args.bank.now c.args.count.now.terms all c.start_place.new.bank c.start_place.new.count.terms _ c.in_err-out.field-0.0 c.from_residual.result x.0
+    (placed_break [] [] [] [] c.args.bank.now c.args.count.now.terms k c.loop-k.bank c.loop-k.count.terms [] c.start_place.new.bank c.start_place.new.count.terms [] all t inside' is w.0 x.1 x.2) c.from_residual.ensures.1
 
 pub loop-k-preserved : goal.loop-k-preserved
 loop-k-preserved c = (
-  length-set c.loop-k.out c.loop-k.k c.in-ok-out.field-0 ∙ c.loop-k.invariant.0,
+  length-set c.loop-k.out c.loop-k.k c.in_ok-out.field-0 ∙ c.loop-k.invariant.0,
   λ started named.
       let all = map start_of c.args.readings.now in
       let k = c.loop-k.k in
@@ -36,8 +36,8 @@ loop-k-preserved c = (
       let t = start_of (get_or c.args.readings.now k no_reading) in
       let is : t ≡ get_or all k no_term = sym (get_or-map start_of c.args.readings.now k no_reading no_term inside) in
       let w = c.loop-k.invariant.1 started named in
-      let x = c.in-ok-out.ensures w.0.started (named k inside) in
-      placed_more [] [] [] [] c.args.bank.now c.args.count.now.terms k c.loop-k.bank c.loop-k.count.terms [] c.start-place.new.bank c.start-place.new.count.terms [] all t inside' is w.0 c.loop-k.out c.in-ok-out.field-0 (omega (arith, c.loop-k.invariant.0)) w.1 c.start-place.auto.bank x.0 x.1,
+      let x = c.in_ok-out.ensures w.0.started (named k inside) in
+      placed_more [] [] [] [] c.args.bank.now c.args.count.now.terms k c.loop-k.bank c.loop-k.count.terms [] c.start_place.new.bank c.start_place.new.count.terms [] all t inside' is w.0 c.loop-k.out c.in_ok-out.field-0 (omega (arith, c.loop-k.invariant.0)) w.1 c.start_place.auto.bank x.0 x.1,
 )
 
 pub returns : goal.returns

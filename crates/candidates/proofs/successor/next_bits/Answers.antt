@@ -15,8 +15,8 @@ loop-k-preserved c =
     let f : ℕ → Bit → Bool = λ n b. or_kept (λ f. get_or c.args.truths.now f false) (get_or c.args.old.now n false) b.next in
     let long = numbered-length f 0 c.args.bits.now in
     let k = c.loop-k.k in
-    let is : c.next-bit.result ≡ get_or (numbered f 0 c.args.bits.now) k false = c.next-bit.ensures ∙ (ap (λ x. or_kept (λ f. get_or c.args.truths.now f false) x (get_or c.args.bits.now k no_bit).next) c.at-or.ensures ∙ sym (numbered_at f c.args.bits.now k false no_bit c.loop-k-test.true)) in
-    (length-set c.loop-k.out k c.next-bit.result ∙ c.loop-k.invariant.0, filled_more false c.loop-k.out (numbered f 0 c.args.bits.now) k c.next-bit.result (omega (arith, c.loop-k.invariant.0)) (omega arith) is c.loop-k.invariant.1)
+    let is : c.next_bit.result ≡ get_or (numbered f 0 c.args.bits.now) k false = c.next_bit.ensures ∙ (ap (λ x. or_kept (λ f. get_or c.args.truths.now f false) x (get_or c.args.bits.now k no_bit).next) c.at_or.ensures ∙ sym (numbered_at f c.args.bits.now k false no_bit c.loop-k-test.true)) in
+    (length-set c.loop-k.out k c.next_bit.result ∙ c.loop-k.invariant.0, filled_more false c.loop-k.out (numbered f 0 c.args.bits.now) k c.next_bit.result (omega (arith, c.loop-k.invariant.0)) (omega arith) is c.loop-k.invariant.1)
 
 pub returns : goal.returns
 returns c =

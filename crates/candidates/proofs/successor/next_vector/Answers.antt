@@ -15,8 +15,8 @@ use Rattle.candidates.proofs.successor.next_vector.Goals as goal
 pub loop-k-init : goal.loop-k-init
 loop-k-init c = (refl, λ v over started. (walked_start (terms_over v c.args.given.inputs.now (map term_in c.args.given.terms.now)) v c.args.given.vector.now c.args.given.inputs.now c.args.bank.now c.args.count.now.terms c.args.known.now over started, λ k lt. absurd (omega arith)))
 
-pub returns-in-err-out : goal.returns-in-err-out
-returns-in-err-out c v over started =
+pub returns-in_err-out : goal.returns-in_err-out
+returns-in_err-out c v over started =
     let values = terms_over v c.args.given.inputs.now (map term_in c.args.given.terms.now) in
     let f : ℕ → Reading → Term = λ n x. next_over c.args.chosen.now v values n x.next in
     let all = numbered f 0 c.args.readings.now in
@@ -27,13 +27,13 @@ returns-in-err-out c v over started =
     let t = f k (get_or c.args.readings.now k no_reading) in
     let is : t ≡ get_or all k no_term = sym (numbered_at f c.args.readings.now k no_term no_reading inside) in
     let w = c.loop-k.invariant.1 v over started in
-    let x = c.in-err-out.ensures v w.0.over w.0.started in
-    added_break c.args.bank.now c.args.count.now.terms all c.next-place.new.bank c.next-place.new.count.terms _ c.in-err-out.field-0.0 c.from-residual.result x.0
-    (placed_break values v c.args.given.vector.now c.args.given.inputs.now c.args.bank.now c.args.count.now.terms k c.loop-k.bank c.loop-k.count.terms c.loop-k.known c.next-place.new.bank c.next-place.new.count.terms c.next-place.new.known all t inside' is w.0 x.1 x.2) c.from-residual.ensures.1
+    let x = c.in_err-out.ensures v w.0.over w.0.started in
+    added_break c.args.bank.now c.args.count.now.terms all c.next_place.new.bank c.next_place.new.count.terms _ c.in_err-out.field-0.0 c.from_residual.result x.0
+    (placed_break values v c.args.given.vector.now c.args.given.inputs.now c.args.bank.now c.args.count.now.terms k c.loop-k.bank c.loop-k.count.terms c.loop-k.known c.next_place.new.bank c.next_place.new.count.terms c.next_place.new.known all t inside' is w.0 x.1 x.2) c.from_residual.ensures.1
 
 pub loop-k-preserved : goal.loop-k-preserved
 loop-k-preserved c = (
-  length-set c.loop-k.out c.loop-k.k c.in-ok-out.field-0 ∙ c.loop-k.invariant.0,
+  length-set c.loop-k.out c.loop-k.k c.in_ok-out.field-0 ∙ c.loop-k.invariant.0,
   λ v over started.
       let values = terms_over v c.args.given.inputs.now (map term_in c.args.given.terms.now) in
       let f : ℕ → Reading → Term = λ n x. next_over c.args.chosen.now v values n x.next in
@@ -45,8 +45,8 @@ loop-k-preserved c = (
       let t = f k (get_or c.args.readings.now k no_reading) in
       let is : t ≡ get_or all k no_term = sym (numbered_at f c.args.readings.now k no_term no_reading inside) in
       let w = c.loop-k.invariant.1 v over started in
-      let x = c.in-ok-out.ensures v w.0.over w.0.started in
-      placed_more values v c.args.given.vector.now c.args.given.inputs.now c.args.bank.now c.args.count.now.terms k c.loop-k.bank c.loop-k.count.terms c.loop-k.known c.next-place.new.bank c.next-place.new.count.terms c.next-place.new.known all t inside' is w.0 c.loop-k.out c.in-ok-out.field-0 (omega (arith, c.loop-k.invariant.0)) w.1 c.next-place.auto.bank x.0 x.1,
+      let x = c.in_ok-out.ensures v w.0.over w.0.started in
+      placed_more values v c.args.given.vector.now c.args.given.inputs.now c.args.bank.now c.args.count.now.terms k c.loop-k.bank c.loop-k.count.terms c.loop-k.known c.next_place.new.bank c.next_place.new.count.terms c.next_place.new.known all t inside' is w.0 c.loop-k.out c.in_ok-out.field-0 (omega (arith, c.loop-k.invariant.0)) w.1 c.next_place.auto.bank x.0 x.1,
 )
 
 pub returns : goal.returns
