@@ -1,5 +1,5 @@
 //! The test whether memory is a bank, in one pass: nodes are looked up on chains of places by bucket.
-ghost use Rattle.std.specs.Prelude.{◌≡◌, ℕ, ◌+◌, ◌<◌, ◌≤◌, true, length, None as is_none, Decides, MatchOption, ◌≢◌, slice_index_or};
+ghost use Rattle.std.specs.Prelude.{◌≡◌, ℕ, ◌+◌, ◌<◌, ◌≤◌, true, length, None, Decides, MatchOption, ◌≢◌, slice_index_or};
 ghost use Rattle.terms.specs.Bank.{node_at, Lacks, Bank};
 ghost use Rattle.closure.specs.Working.{Reaches, Under, Chains};
 ghost use Rattle.banks.specs.Listing.{Listed};
@@ -17,7 +17,7 @@ fn lookup(
 ) -> Option<usize>
     requires inside { terms ≤ length bank.now }
     requires linked { terms ≤ length next.now }
-    requires down { (k : ℕ) → Under k (slice_index_or next.now k is_none) }
+    requires down { (k : ℕ) → Under k (slice_index_or next.now k None) }
     requires begin { Under terms first }
     ensures { MatchOption result ((j : ℕ) → Reaches next.now first j → node_at bank.now j ≢ sought) (λ j. (j < terms) × (node_at bank.now j ≡ sought)) }
 {

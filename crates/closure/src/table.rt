@@ -1,5 +1,5 @@
 //! The table of signatures: chains of places by the bucket of their signature.
-ghost use Rattle.std.specs.Prelude.{◌≡◌, ℕ, ◌+◌, ◌<◌, ◌≤◌, false, [], length, is_some, None as is_none, MatchOption, ◌≢◌, slice_index_or};
+ghost use Rattle.std.specs.Prelude.{◌≡◌, ℕ, ◌+◌, ◌<◌, ◌≤◌, false, [], length, is_some, None, MatchOption, ◌≢◌, slice_index_or};
 ghost use Rattle.queue.specs.Entries.{entries, room};
 ghost use Rattle.terms.specs.Bank.{Fit, Ordered, relabel};
 ghost use Rattle.closure.specs.Labels.{label};
@@ -60,7 +60,7 @@ pub(crate) fn lookup(
     requires ordered { Ordered bank.now terms }
     requires labelled { terms ≤ length labels.now }
     requires linked { terms ≤ length next.now }
-    requires down { (k : ℕ) → Under k (slice_index_or next.now k is_none) }
+    requires down { (k : ℕ) → Under k (slice_index_or next.now k None) }
     requires begin { Under terms first }
     ensures { MatchOption result ((j : ℕ) → Reaches next.now first j → sig bank.now labels.now j ≢ sought) (λ j. (j < terms) × (sig bank.now labels.now j ≡ sought)) }
 {

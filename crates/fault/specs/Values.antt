@@ -1,13 +1,9 @@
 -- Every fault with its number, its layer and its place, and the text that shows it. Assumes nothing.
 use Rattle.std.specs.Prelude.{ℕ, List, ◌++◌, Some, None, codes, decimal, Option}
 use Rattle.fault.specs.declared.Layer.{Layer}
-use Rattle.fault.specs.declared.SheetFault.{SheetFault}
 use Rattle.fault.specs.declared.SheetFault.TheVariants.{Truncated, UnknownLetter, BadBody, TooMany, Repeated, Incomplete, TrailingBytes}
-use Rattle.fault.specs.declared.TableFault.{TableFault}
 use Rattle.fault.specs.declared.TableFault.TheVariants.{BadMemory, UnsafeStart, NoSuchBranch, NotWaiting, NotOut, HeightAboveBound, NamesExhausted, TermsExhausted, Satisfiable, NoRenaming, UnsafeForm, RowLimit}
-use Rattle.fault.specs.declared.BenchFault.{BenchFault}
 use Rattle.fault.specs.declared.BenchFault.TheVariants.{TooManySteps, InputsLength, StartsLength}
-use Rattle.fault.specs.declared.ModelFault.{ModelFault}
 use Rattle.fault.specs.declared.ModelFault.TheVariants.{ZeroModulus}
 use Rattle.fault.specs.declared.Place.{Place}
 use Rattle.fault.specs.declared.Fault.{Fault}

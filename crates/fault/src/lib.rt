@@ -4,7 +4,7 @@
 
 ghost use Rattle.std.specs.Prelude.{◌≡◌, Some};
 ghost use Rattle.fault.specs.Values.{values_of, text_of};
-ghost use Rattle.fault.specs.declared.Failure.TheVariants.{Fault as isFault, Memory};
+ghost use Rattle.fault.specs.declared.Failure.{Failure};
 
 use std::alloc::{AllocError, AllocFailed};
 use std::fmt;
@@ -198,7 +198,7 @@ pub enum Failure {
 }
 
 impl From<Fault> for Failure {
-    ghost from_gives = { λ f r. r ≡ isFault f };
+    ghost from_gives = { λ f r. r ≡ Failure.Fault f };
 
     fn from(fault: Fault) -> Failure {
         Failure::Fault(fault)
@@ -206,7 +206,7 @@ impl From<Fault> for Failure {
 }
 
 impl From<AllocError> for Failure {
-    ghost from_gives = { λ _ r. r ≡ Memory };
+    ghost from_gives = { λ _ r. r ≡ Failure.Memory };
 
     fn from(_e: AllocError) -> Failure {
         Failure::Memory
@@ -214,7 +214,7 @@ impl From<AllocError> for Failure {
 }
 
 impl<T: Drop> From<AllocFailed<T>> for Failure {
-    ghost from_gives = { λ _ r. r ≡ Memory };
+    ghost from_gives = { λ _ r. r ≡ Failure.Memory };
 
     fn from(_e: AllocFailed<T>) -> Failure {
         Failure::Memory

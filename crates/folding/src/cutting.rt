@@ -1,5 +1,5 @@
 //! Cuts: while a vector term is too high, a term of height 1 in it becomes a name.
-ghost use Rattle.std.specs.Prelude.{◌≡◌, ℕ, suc, ◌<◌, ◌≤◌, map, length, take, Some as option_is_some, None as is_none, MatchOption, MatchResult, slice_index};
+ghost use Rattle.std.specs.Prelude.{◌≡◌, ℕ, suc, ◌<◌, ◌≤◌, map, length, take, Some, None, MatchOption, MatchResult, slice_index};
 ghost use Rattle.sheet.specs.View.{sheet_of};
 ghost use Rattle.terms.specs.Terms.{height};
 ghost use Rattle.terms.specs.Bank.{Bank, term_at};
@@ -28,7 +28,7 @@ fn first_higher(
     requires bank { Bank bank.now terms }
     requires room { readings ≤ length places.now }
     requires inside { (k : ℕ) → k < readings → slice_index places.now k < terms }
-    ensures { MatchOption result (first_higher bound (map (term_at bank.now) (take readings places.now)) ≡ is_none) (λ p. (p < terms) × (first_higher bound (map (term_at bank.now) (take readings places.now)) ≡ option_is_some (term_at bank.now p)) × (bound < height (term_at bank.now p))) }
+    ensures { MatchOption result (first_higher bound (map (term_at bank.now) (take readings places.now)) ≡ None) (λ p. (p < terms) × (first_higher bound (map (term_at bank.now) (take readings places.now)) ≡ Some (term_at bank.now p)) × (bound < height (term_at bank.now p))) }
 {
     for k in 0..readings {
         let place = places[k];

@@ -3,7 +3,7 @@ use Rattle.std.proofs.Common.{◌≡◌, ℕ, ◌⊎◌, List, ◌++◌, Some, N
 use Rattle.terms.specs.Terms.{Term, name}
 use Rattle.banks.specs.Room.{Roomy, Crowded}
 use Rattle.forms.specs.Rows.{Row, stands, lowest_free}
-use Rattle.forms.specs.Form.{first_higher, lowest, replaced_row, trimmed, Cut, low as cut_low, nameless as cut_nameless, cut as is_cut}
+use Rattle.forms.specs.Form.{first_higher, lowest, replaced_row, trimmed, Cut, low as cut_low, nameless as cut_nameless, cut as cut_on}
 use Rattle.forms.specs.Counted.{terms_in, Built, made, nameless, crowded, CutIn, low, wanting, full, cut, FormIn}
 use Rattle.forms.specs.Laws.{CountedForm}
 use Rattle.forms.proofs.Shaping.{none_some, one_some}
@@ -15,8 +15,8 @@ Says h row nameless = Cut h row None
 Says h row crowded = Unit {0}
 
 says_more : (h : ℕ) (row : Row) (t : Term) (x : ℕ) (end : Built) → first_higher h row.vector ≡ Some t → lowest_free (stands row) ≡ Some x → Says h (replaced_row (lowest t) (name x) row) end → Says h row end
-says_more h row t x (made end seen) e free c = is_cut row t x (Some end) e free c
-says_more h row t x nameless e free c = is_cut row t x None e free c
+says_more h row t x (made end seen) e free c = cut_on row t x (Some end) e free c
+says_more h row t x nameless e free c = cut_on row t x None e free c
 says_more h row t x crowded e free c = tt
 
 says : (h : ℕ) {seen : List Term} {row : Row} {end : Built} → CutIn h seen row end → Says h row end

@@ -1,5 +1,5 @@
 //! Answers as they are printed.
-ghost use Rattle.std.specs.Prelude.{◌≡◌, Some as option_is_some};
+ghost use Rattle.std.specs.Prelude.{◌≡◌, Some};
 ghost use Rattle.notation.specs.Shown.{reason_text, answer_text};
 
 use super::Unread;
@@ -27,7 +27,7 @@ impl Unread {
 
 /// `impossible joins J`, `possible`, `full`, or `line L: ` and what is wrong.
 impl fmt::Display for Answer {
-    ghost output = { λ a. option_is_some (answer_text a) };
+    ghost output = { λ a. Some (answer_text a) };
 
     fn fmt<W: fmt::Write>(&self, f: &mut fmt::Formatter<W>) -> fmt::Result {
         match self {

@@ -1,7 +1,6 @@
 //! The affine model: each symbol is a sum of multiples of its arguments, taken by a modulus.
 ghost use Rattle.std.specs.Prelude.{◌≡◌, ℕ, ◌*◌, ◌^◌, ◌<◌, [], MatchResult, slice_index};
 ghost use Rattle.plant.specs.Affine.{curve_of, FirstCurve, sum, affine, meaning_of};
-ghost use Rattle.fault.specs.declared.Fault.TheVariants.{Model as isModel};
 ghost use Rattle.fault.specs.declared.ModelFault.TheVariants.{ZeroModulus};
 
 use super::Model as PlantModel;
@@ -27,7 +26,7 @@ pub struct Affine<'a> {
 
 impl<'a> Affine<'a> {
     pub fn new(modulus: u32, curves: &'a [Curve]) -> Result<Affine<'a>, Fault>
-        ensures meaning { MatchResult result (λ model. (0 < modulus) × (meaning_of model ≡ affine modulus curves.now)) (λ fault. (modulus ≡ 0) × (fault ≡ isModel ZeroModulus)) }
+        ensures meaning { MatchResult result (λ model. (0 < modulus) × (meaning_of model ≡ affine modulus curves.now)) (λ fault. (modulus ≡ 0) × (fault ≡ Fault.Model ZeroModulus)) }
         ensures first { (symbol : ℕ) → FirstCurve curves.now symbol (curve_of curves.now symbol) }
     {
         if modulus == 0 {

@@ -2,7 +2,7 @@
 #![tactic(auto)]
 
 ghost use Rattle.std.specs.Prelude.{◌≡◌};
-ghost use Rattle.run_file.specs.declared.Halt.TheVariants.{Problem as isProblem, Memory};
+ghost use Rattle.run_file.specs.declared.Halt.{Halt};
 
 use plant::affine::Curve;
 use plant::listed::Entry;
@@ -40,7 +40,7 @@ pub(crate) enum Halt {
 }
 
 impl From<Problem> for Halt {
-    ghost from_gives = { λ p r. r ≡ isProblem p };
+    ghost from_gives = { λ p r. r ≡ Halt.Problem p };
 
     fn from(problem: Problem) -> Halt {
         Halt::Problem(problem)
@@ -48,7 +48,7 @@ impl From<Problem> for Halt {
 }
 
 impl From<AllocError> for Halt {
-    ghost from_gives = { λ _ r. r ≡ Memory };
+    ghost from_gives = { λ _ r. r ≡ Halt.Memory };
 
     fn from(_e: AllocError) -> Halt {
         Halt::Memory
@@ -56,7 +56,7 @@ impl From<AllocError> for Halt {
 }
 
 impl<T: Drop> From<AllocFailed<T>> for Halt {
-    ghost from_gives = { λ _ r. r ≡ Memory };
+    ghost from_gives = { λ _ r. r ≡ Halt.Memory };
 
     fn from(_e: AllocFailed<T>) -> Halt {
         Halt::Memory

@@ -1,4 +1,4 @@
-use Rattle.std.proofs.Common.{refl, ◌∙◌, arith, length-set}
+use Rattle.std.proofs.Common.{refl, arith, length-set}
 use Rattle.queue.proofs.Rings.{length-ring, push_before_end, push_at_start}
 use Rattle.queue.proofs.Queue.push.Goals as goal
 use Rattle.queue.proofs.Queue.push.Goals.{then-self-before_end, else-self-before_end}
