@@ -5,6 +5,7 @@
 ghost use Rattle.std.specs.Prelude.{◌≡◌, Some};
 ghost use Rattle.fault.specs.Values.{values_of, text_of};
 ghost use Rattle.fault.specs.declared.Failure.{Failure};
+ghost use Rattle.fault.specs.declared.Fault.{Fault};
 
 use std::alloc::{AllocError, AllocFailed};
 use std::fmt;
@@ -135,6 +136,22 @@ impl Fault {
             Fault::Sheet(_, place) => Some(*place),
             _ => None,
         }
+    }
+}
+
+impl From<TableFault> for Fault {
+    ghost from_gives = { λ f r. r ≡ Fault.Table f };
+
+    fn from(fault: TableFault) -> Fault {
+        Fault::Table(fault)
+    }
+}
+
+impl From<BenchFault> for Fault {
+    ghost from_gives = { λ f r. r ≡ Fault.Bench f };
+
+    fn from(fault: BenchFault) -> Fault {
+        Fault::Bench(fault)
     }
 }
 

@@ -27,7 +27,7 @@ const NO_CONDITION: Condition = Condition {
 pub fn at_or<T: Copy>(xs: &[T], n: usize, default: T) -> T
     ensures { result ≡ slice_index_or xs.now n default }
 {
-    if n < xs.len() { xs[n] } else { default }
+    xs.get(n).copied().unwrap_or(default)
 }
 
 fn names_at(bank: &[TermRecord], place: u16) -> u32

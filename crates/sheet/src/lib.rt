@@ -4,12 +4,14 @@
 
 pub mod kind;
 mod letters;
+mod memo;
 pub mod parts;
 pub mod sheet;
 pub mod syntax;
 mod truth;
 
 pub use kind::Kind;
+pub use memo::{recall, remember};
 pub use parts::Parts;
 pub use sheet::Sheet;
 pub use syntax::{

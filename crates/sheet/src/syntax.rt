@@ -2,28 +2,28 @@
 //! records, and every `u8` below that names a thing is such a number.
 
 /// A state bit: how it starts, and the formula of its next value; without one it keeps its value.
-#[derive(Clone, Copy)]
+#[derive(Clone, Copy, Debug, PartialEq, Eq)]
 pub struct Bit {
     pub start: bool,
     pub next: Option<u8>,
 }
 
 /// How a reading starts: as one of the 8 start values, or as a constant's value.
-#[derive(Clone, Copy)]
+#[derive(Clone, Copy, Debug, PartialEq, Eq)]
 pub enum Start {
     Name(u8),
     Constant(u8),
 }
 
 /// A reading: how it starts, and the choice of its next value; without one it keeps its value.
-#[derive(Clone, Copy)]
+#[derive(Clone, Copy, Debug, PartialEq, Eq)]
 pub struct Reading {
     pub start: Start,
     pub next: Option<u8>,
 }
 
 /// The terms that a symbol is applied to.
-#[derive(Clone, Copy)]
+#[derive(Clone, Copy, Debug, PartialEq, Eq)]
 pub enum Args {
     Zero,
     One(u8),
@@ -31,7 +31,7 @@ pub enum Args {
     Three(u8, u8, u8),
 }
 
-#[derive(Clone, Copy)]
+#[derive(Clone, Copy, Debug, PartialEq, Eq)]
 pub enum Term {
     Reading(u8),
     Input(u8),
@@ -39,13 +39,13 @@ pub enum Term {
 }
 
 /// Two terms that are compared, by a question or by a claim.
-#[derive(Clone, Copy)]
+#[derive(Clone, Copy, Debug, PartialEq, Eq)]
 pub struct Equation {
     pub left: u8,
     pub right: u8,
 }
 
-#[derive(Clone, Copy)]
+#[derive(Clone, Copy, Debug, PartialEq, Eq)]
 pub enum Formula {
     True,
     Bit(u8),
@@ -57,14 +57,14 @@ pub enum Formula {
 }
 
 /// A choice is a term, or by a formula one of two earlier choices.
-#[derive(Clone, Copy)]
+#[derive(Clone, Copy, Debug, PartialEq, Eq)]
 pub enum Choice {
     Term(u8),
     If(u8, u8, u8),
 }
 
 /// A record before the end record, with what its body says.
-#[derive(Clone, Copy)]
+#[derive(Clone, Copy, Debug, PartialEq, Eq)]
 pub enum Record {
     Bit(bool),
     Symbol(u8),
@@ -82,28 +82,28 @@ pub enum Record {
 }
 
 /// The height of a term, and whether an input stands in it.
-#[derive(Clone, Copy)]
+#[derive(Clone, Copy, Debug, PartialEq, Eq)]
 pub struct TermInfo {
     pub height: u8,
     pub has_input: bool,
 }
 
 /// Whether a question, and whether a claim, stands in a formula.
-#[derive(Clone, Copy)]
+#[derive(Clone, Copy, Debug, PartialEq, Eq)]
 pub struct FormulaInfo {
     pub has_question: bool,
     pub has_claim: bool,
 }
 
 /// A term with what the rules ask of it.
-#[derive(Clone, Copy)]
+#[derive(Clone, Copy, Debug, PartialEq, Eq)]
 pub struct TermEntry {
     pub term: Term,
     pub info: TermInfo,
 }
 
 /// A formula with what the rules ask of it.
-#[derive(Clone, Copy)]
+#[derive(Clone, Copy, Debug, PartialEq, Eq)]
 pub struct FormulaEntry {
     pub formula: Formula,
     pub info: FormulaInfo,

@@ -6,6 +6,7 @@ ghost use Rattle.sheet.specs.Truth.{truth_of, truths, term_of_choice, chosen};
 ghost use Rattle.sheet.specs.Memo.{Remembers, before, operands_of, connected, grounded};
 ghost use Rattle.sheet.specs.View.{sheet_of};
 
+use crate::memo::{recall, remember};
 use crate::sheet::Sheet;
 use crate::syntax::{Choice, Formula, FormulaEntry};
 
@@ -17,20 +18,6 @@ fn bit_of(bits: &[bool], number: u8) -> bool
 {
     let n = number as usize;
     if n < bits.len() { bits[n] } else { false }
-}
-
-fn recall<T: Copy>(known: &[Option<T>], n: usize) -> Option<T>
-    ensures { result ≡ slice_index_or known.now n None }
-{
-    if n < known.len() { known[n] } else { None }
-}
-
-fn remember<T: Copy>(known: &mut [Option<T>], n: usize, value: T)
-    ensures { known.new ≡ slice_set known.old n (Some value) }
-{
-    if n < known.len() {
-        known[n] = Some(value);
-    }
 }
 
 // The formulas that a formula is made of.

@@ -13,17 +13,7 @@ pub const MOST_TERMS: usize = 512;
 pub fn same_node(a: Node, b: Node) -> bool
     ensures { Decides result (a ≡ b) }
 {
-    match (a, b) {
-        (Node::Name(x), Node::Name(y)) => x == y,
-        (Node::Constant(f), Node::Constant(g)) => f == g,
-        (Node::Unary(f, a), Node::Unary(g, d)) => f == g && a == d,
-        (Node::Binary(f, a, b), Node::Binary(g, d, e)) => f == g && a == d && b == e,
-        (Node::Ternary(f, a, b, c), Node::Ternary(g, d, e, h)) => f == g
-            && a == d
-            && b == e
-            && c == h,
-        _ => false,
-    }
+    a == b
 }
 
 /// Whether a node names places below `terms` and one of the 32 names.
@@ -184,8 +174,7 @@ pub fn is_measured(bank: &[TermRecord], i: usize) -> bool
     if !is_fit(found.node, i) {
         return false;
     }
-    let right = measured(bank, found.node);
-    found.height == right.height && found.names == right.names
+    found == measured(bank, found.node)
 }
 
 /// Restores the count when it is let go, so that terms added meanwhile leave the bank on every way out.
