@@ -1,3 +1,2 @@
 mod Firsts
 mod Fitting
-mod Products

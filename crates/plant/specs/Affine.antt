@@ -1,6 +1,7 @@
 -- What the affine model means. Assumes nothing.
-use Rattle.std.specs.Prelude.{◌≡◌, ℕ, ◌+◌, ◌*◌, ◌%◌, List, nat_eq, slice_index}
-use Rattle.plant.specs.First.{first_of, First}
+use Rattle.std.specs.Prelude.{◌≡◌, ℕ, ◌+◌, ◌*◌, ◌%◌, List, ◌==◌, find, unwrap_or, slice_index}
+use Rattle.std.specs.Int.NonZero.{non_zero_u32_get}
+use Rattle.plant.specs.First.{First}
 use Rattle.plant.specs.declared.affine.Affine.{Affine}
 use Rattle.plant.specs.declared.affine.Curve.{Curve}
 
@@ -9,7 +10,7 @@ zeros symbol = record { symbol = symbol; p = 0; q = 0; r = 0; s = 0 }
 
 -- the first curve of the symbol, or one of zeros
 abbrev pub curve_of : List Curve → ℕ → Curve
-curve_of curves symbol = first_of (λ c. nat_eq c.symbol symbol) (λ c. c) (zeros symbol) curves
+curve_of curves symbol = unwrap_or (find (λ c. c.symbol == symbol) curves) (zeros symbol)
 
 abbrev pub FirstCurve : List Curve → ℕ → Curve → Type 0
 FirstCurve curves symbol = First (λ c. c.symbol ≡ symbol) (λ c. c) (zeros symbol) curves
@@ -23,4 +24,4 @@ affine modulus curves symbol values = sum (curve_of curves symbol) values % modu
 
 -- what a made model means
 abbrev pub meaning_of : Affine → ℕ → List ℕ → ℕ
-meaning_of model = affine (model.largest + 1) model.curves.now
+meaning_of model = affine (non_zero_u32_get model.modulus) model.curves.now

@@ -1,10 +1,5 @@
 -- The first element of a list that passes a test. Assumes nothing.
-use Rattle.std.specs.Prelude.{◌≡◌, ℕ, ◌<◌, Bool, cond, List, [], ◌∷◌, length, slice_index_or}
-
--- the value of the first element that passes the test, or the default where none does
-abbrev pub first_of : {X Y : Type 0} → (X → Bool) → (X → Y) → Y → List X → Y
-first_of test value default [] = default
-first_of test value default (x ∷ xs) = cond (test x) (value x) (first_of test value default xs)
+use Rattle.std.specs.Prelude.{◌≡◌, ℕ, ◌<◌, List, length, slice_index_or}
 
 -- r is the value of the element at k, which is P where no earlier one is, or the default where none is P
 pub data First {X Y : Type 0} (P : X → Type 0) (value : X → Y) (default : Y) (xs : List X) (r : Y) : Type 0 where

@@ -1,10 +1,13 @@
 //! The affine model: each symbol is a sum of multiples of its arguments, taken by a modulus.
-ghost use Rattle.std.specs.Prelude.{◌≡◌, ℕ, ◌*◌, ◌^◌, ◌<◌, [], MatchResult, slice_index};
+ghost use Rattle.std.specs.Prelude.{◌≡◌, ℕ, ◌*◌, ◌^◌, ◌<◌, [], MatchResult, slice_index, find, ◌==◌};
 ghost use Rattle.plant.specs.Affine.{curve_of, FirstCurve, sum, affine, meaning_of};
+ghost use Rattle.std.specs.Option.{option_copied};
+ghost use Rattle.plant.specs.declared.affine.Curve.{Curve};
 ghost use Rattle.fault.specs.declared.ModelFault.TheVariants.{ZeroModulus};
 
 use super::Model as PlantModel;
 use fault::{Fault, ModelFault};
+use std::num::NonZeroU32;
 
 /// The coefficients of one symbol: p, q and r for its three arguments, and s alone.
 #[derive(Clone, Copy, Debug, PartialEq, Eq)]
@@ -19,8 +22,7 @@ pub struct Curve {
 /// A model by lent curves: (p × a + q × b + r × c + s) mod m, by the first curve of the symbol.
 #[derive(Clone, Copy, Debug)]
 pub struct Affine<'a> {
-    /// The modulus less 1, so that no modulus is 0.
-    largest: u32,
+    modulus: NonZeroU32,
     curves: &'a [Curve],
 }
 
@@ -29,39 +31,37 @@ impl<'a> Affine<'a> {
         ensures meaning { MatchResult result (λ model. (0 < modulus) × (meaning_of model ≡ affine modulus curves.now)) (λ fault. (modulus ≡ 0) × (fault ≡ Fault.Model ZeroModulus)) }
         ensures first { (symbol : ℕ) → FirstCurve curves.now symbol (curve_of curves.now symbol) }
     {
-        if modulus == 0 {
-            return Err(Fault::Model(ModelFault::ZeroModulus));
-        }
-        Ok(Affine {
-            largest: modulus - 1,
-            curves,
-        })
+        let modulus = NonZeroU32::new(modulus).ok_or(Fault::Model(ModelFault::ZeroModulus))?;
+        Ok(Affine { modulus, curves })
     }
 }
 
-/// The first curve of the symbol, or one of zeros.
+/// The first curve of the symbol.
+fn first_curve(curves: &[Curve], symbol: u8) -> Option<&Curve>
+    ensures { option_copied result ≡ find (λ (c : Curve). c.symbol == symbol) curves.now }
+{
+    curves.iter().find(|curve| curve.symbol == symbol)
+}
+
+/// The same, or one of zeros.
 fn curve_of(curves: &[Curve], symbol: u8) -> Curve
     ensures { result ≡ curve_of curves.now symbol }
 {
-    for curve in curves {
-        if curve.symbol == symbol {
-            return *curve;
-        }
-    }
-    Curve {
+    let zeros = Curve {
         symbol,
         p: 0,
         q: 0,
         r: 0,
         s: 0,
-    }
+    };
+    first_curve(curves, symbol).copied().unwrap_or(zeros)
 }
 
 /// The value at `i`; a missing one counts 0.
 fn value_or_zero(values: &[u32], i: usize) -> u32
     ensures { result ≡ slice_index values.now i }
 {
-    if i < values.len() { values[i] } else { 0 }
+    values.get(i).copied().unwrap_or(0)
 }
 
 fn product(coefficient: u16, value: u32) -> u64
@@ -88,6 +88,6 @@ impl<'a> PlantModel for Affine<'a> {
 
     fn apply(&mut self, symbol: u8, values: &[u32]) -> u32 {
         let sum = sum_at(curve_of(self.curves, symbol), values);
-        (sum % (u64::from(self.largest) + 1)) as u32
+        (sum % u64::from(self.modulus.get())) as u32
     }
 }

@@ -1,6 +1,7 @@
 //! The listed model: entries that say a symbol's value at values, and a default for all else.
-ghost use Rattle.std.specs.Prelude.{◌≡◌, ℕ, List, []};
-ghost use Rattle.plant.specs.Listed.{fits, listed, FirstFitting, meaning_of};
+ghost use Rattle.std.specs.Prelude.{◌≡◌, ℕ, List, [], find};
+ghost use Rattle.std.specs.Option.{option_copied};
+ghost use Rattle.plant.specs.Listed.{values_of, fits, listed, FirstFitting, meaning_of};
 
 use super::Model as PlantModel;
 
@@ -11,6 +12,26 @@ pub enum Values {
     One(u32),
     Two(u32, u32),
     Three(u32, u32, u32),
+}
+
+/// A list that is too long for `Values`.
+#[derive(Clone, Copy, Debug, PartialEq, Eq)]
+pub struct TooManyValues;
+
+impl TryFrom<&[u32]> for Values {
+    type Error = TooManyValues;
+
+    ghost try_from_gives = { λ list r. r ≡ values_of list.now };
+
+    fn try_from(list: &[u32]) -> Result<Values, TooManyValues> {
+        match list {
+            [] => Ok(Values::Zero),
+            [a] => Ok(Values::One(*a)),
+            [a, b] => Ok(Values::Two(*a, *b)),
+            [a, b, c] => Ok(Values::Three(*a, *b, *c)),
+            _ => Err(TooManyValues),
+        }
+    }
 }
 
 /// One symbol's value at one list of values.
@@ -26,14 +47,7 @@ impl Entry {
     pub fn fits(&self, symbol: u8, values: &[u32]) -> bool
         ensures { result ≡ fits symbol values.now self.now }
     {
-        self.symbol == symbol
-            && match (self.values, values) {
-                (Values::Zero, []) => true,
-                (Values::One(a), [x]) => a == *x,
-                (Values::Two(a, b), [x, y]) => a == *x && b == *y,
-                (Values::Three(a, b, c), [x, y, z]) => a == *x && b == *y && c == *z,
-                _ => false,
-            }
+        self.symbol == symbol && Values::try_from(values) == Ok(self.values)
     }
 }
 
@@ -53,15 +67,17 @@ impl<'a> Listed<'a> {
     }
 }
 
+/// The first entry that fits.
+fn first_entry<'a>(entries: &'a [Entry], symbol: u8, values: &[u32]) -> Option<&'a Entry>
+    ensures { option_copied result ≡ find (fits symbol values.now) entries.now }
+{
+    entries.iter().find(|entry| entry.fits(symbol, values))
+}
+
 fn first_fitting(default: u32, entries: &[Entry], symbol: u8, values: &[u32]) -> u32
     ensures { result ≡ listed default entries.now symbol values.now }
 {
-    for entry in entries {
-        if entry.fits(symbol, values) {
-            return entry.result;
-        }
-    }
-    default
+    first_entry(entries, symbol, values).map_or(default, |entry| entry.result)
 }
 
 impl<'a> PlantModel for Listed<'a> {

@@ -1,4 +1,3 @@
-mod Fronts
 mod Laws
 mod Numbers
 mod Sequences

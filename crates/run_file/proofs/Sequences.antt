@@ -1,9 +1,12 @@
--- The numbers of a text, word by word. Assumes nothing.
-use Rattle.std.proofs.Common.{◌≡◌, ℕ, ◌+◌, List, [], ◌∷◌, ◌++◌, length, Ok, Err, Result, sym, refl, ap, ◌∙◌, subst, append_assoc, append-nil, arith}
+-- The numbers of a text word by word, and its lines one by one. Assumes nothing.
+use Rattle.std.proofs.Common.{◌≡◌, ℕ, ◌+◌, ◌<◌, List, [], ◌∷◌, ◌++◌, length, get_or, drop, map, Ok, Err, Some, None, Option, Result, sym, refl, ap, ◌∙◌, append_assoc, arith}
+use Rattle.std.specs.Iterator.{Yields}
+use Rattle.std.proofs.lemmas.List.{at_drop_more, at_drop_all}
+use Rattle.std.proofs.lemmas.Iterator.{YieldsList}
+use Rattle.std.proofs.lemmas.Iterator.Consumers.{YieldsList-turn, YieldsList-end}
 use Rattle.run_file.specs.Directive.{and_then}
-use Rattle.run_file.specs.Reading.{Halts, Fails, Sofar, numbers_of, with_first, line_says, failed_at, at_line, following}
-use Rattle.run_file.specs.Text.{number_of, onto, words_of}
-use Rattle.run_file.specs.declared.Halt.{Halt}
+use Rattle.run_file.specs.Reading.{Fails, Sofar, numbers_of, with_first, line_says, at_line, following}
+use Rattle.run_file.specs.Text.{number_of, lines_of, words_of}
 use Rattle.run_file_error.specs.declared.LineError.{LineError}
 use Rattle.run_file_error.specs.declared.Problem.{Problem}
 use Rattle.run_file_error.specs.declared.ReadFailure.{ReadFailure}
@@ -20,37 +23,28 @@ after_first : (ns : List ℕ) (n : ℕ) (r : Result (List ℕ) Problem) → afte
 after_first ns n (Ok ms) = ap Ok (sym (append_assoc ns (n ∷ []) ms))
 after_first ns n (Err p) = refl
 
-pub onto_some : (w : List ℕ) (ws : List (List ℕ)) → (length w ≡ 0 → ⊥) → onto w ws ≡ w ∷ ws
-onto_some [] ws h = absurd (h refl)
-onto_some (b ∷ bs) ws h = refl
+module _ (ns w : List ℕ) (ws : List (List ℕ)) where
+  pub numbers_more : (n : ℕ) → number_of w ≡ Ok n → after ns (numbers_of (w ∷ ws)) ≡ after (ns ++ n ∷ []) (numbers_of ws)
+  numbers_more n e = ap (λ x. after ns (and_then x (λ n. with_first n (numbers_of ws)))) e ∙ after_first ns n (numbers_of ws)
 
-pub onto_none : (w : List ℕ) (ws : List (List ℕ)) → length w ≡ 0 → onto w ws ≡ []
-onto_none [] ws h = refl
-onto_none (b ∷ bs) ws h = absurd (omega arith)
+  pub numbers_bad : (p : Problem) → number_of w ≡ Err p → after ns (numbers_of (w ∷ ws)) ≡ Err p
+  numbers_bad p e = ap (λ x. after ns (and_then x (λ n. with_first n (numbers_of ws)))) e
 
-module _ (ns : List ℕ) (words : List (List ℕ)) (w : List ℕ) (ws : List (List ℕ)) (split : words ≡ onto w ws) where
-  pub numbers_end : length w ≡ 0 → after ns (numbers_of words) ≡ Ok ns
-  numbers_end h = ap (λ x. after ns (numbers_of x)) (split ∙ onto_none w ws h) ∙ ap Ok (append-nil ns)
+module _ {S A : Type 0} {steps : S → Option A → S → Type 0} {v : A → List ℕ} {s : S} (bytes : List ℕ) (road : YieldsList steps v s (lines_of bytes)) (xs : List A) (t : S) (so-far : Yields steps s xs t) (r : Option A) (u : S) (step : steps t r u) (line : ℕ) (count : line ≡ length xs) (d : Sofar) where
+  -- the line that is taken next, and those after it
+  pub lines_more : (x : A) → r ≡ Some x → following (line + 1) d (drop line (lines_of bytes)) ≡ and_then (at_line (line + 1) (line_says d (words_of (v x)))) (λ said. following (line + 1 + 1) said (drop (line + 1) (lines_of bytes)))
+  lines_more x is =
+      let turn : (length xs < length (lines_of bytes)) × (v x ≡ get_or (lines_of bytes) (length xs) (v x)) = YieldsList-turn road xs t so-far r u x is step in
+      at_drop_more (following (line + 1) d) (lines_of bytes) line (v x) (omega arith)
+      ∙ ap (λ l. following (line + 1) d (l ∷ drop (line + 1) (lines_of bytes))) (ap (λ n. get_or (lines_of bytes) n (v x)) count ∙ sym turn.1)
 
-  pub numbers_more : (length w ≡ 0 → ⊥) → (n : ℕ) → number_of w ≡ Ok n → after ns (numbers_of words) ≡ after (ns ++ n ∷ []) (numbers_of ws)
-  numbers_more h n e =
-      ap (λ x. after ns (numbers_of x)) (split ∙ onto_some w ws h)
-      ∙ ap (λ x. after ns (and_then x (λ n. with_first n (numbers_of ws)))) e
-      ∙ after_first ns n (numbers_of ws)
+  pub lines_all : r ≡ None → line ≡ length (lines_of bytes)
+  lines_all is = let end : (map v xs ≡ lines_of bytes) × (length xs ≡ length (lines_of bytes)) = YieldsList-end road xs t so-far r u is step in count ∙ end.1
 
-  pub numbers_bad : (length w ≡ 0 → ⊥) → (p : Problem) → number_of w ≡ Err p → after ns (numbers_of words) ≡ Err p
-  numbers_bad h p e =
-      ap (λ x. after ns (numbers_of x)) (split ∙ onto_some w ws h)
-      ∙ ap (λ x. after ns (and_then x (λ n. with_first n (numbers_of ws)))) e
+  pub lines_end : r ≡ None → following (line + 1) d (drop line (lines_of bytes)) ≡ Ok d
+  lines_end is = let all = lines_all is in at_drop_all (following (line + 1) d) (lines_of bytes) line (omega arith)
 
-module _ (line : ℕ) (d : Sofar) (text : List ℕ) (ls : List (List ℕ)) where
-  pub line_taken : (said : Sofar) → line_says d (words_of text) ≡ Ok said → following line d (text ∷ ls) ≡ following (line + 1) said ls
-  line_taken said e = ap (λ r. and_then (at_line line r) (λ s. following (line + 1) s ls)) e
-
-  failed : (halt : Halt) → Halts halt (line_says d (words_of text)) → Fails (failed_at line halt) (following line d (text ∷ ls))
-  failed (Halt.Problem p) e = ap (λ r. and_then (at_line line r) (λ s. following (line + 1) s ls)) e
-  failed Halt.Memory e = tt
-
-  -- a line that is not taken ends the reading
-  pub line_failed : (said : Result Sofar LineError) (f : ReadFailure) (halt : Halt) → said ≡ following line d (text ∷ ls) → f ≡ failed_at line halt → Halts halt (line_says d (words_of text)) → Fails f said
-  line_failed said f halt p q e = subst (λ f. Fails f said) (sym q) (subst (λ s. Fails (failed_at line halt) s) (sym p) (failed halt e))
+-- a failure ends the reading
+pub fails_on : {Y Z : Type 0} (f : ReadFailure) (r : Result Y LineError) (go : Y → Result Z LineError) → Fails f r → Fails f (and_then r go)
+fails_on (ReadFailure.Line e) r go h = ap (λ r. and_then r go) h
+fails_on ReadFailure.Memory r go h = tt

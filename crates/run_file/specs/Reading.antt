@@ -13,7 +13,6 @@ use Rattle.run_file.specs.declared.RunFile.{RunFile}
 use Rattle.run_file_error.specs.declared.Problem.TheVariants.{UnknownDirective, PlantMissing, StartMissing, StepsMissing, PlantNotFirst, PlantRepeated, EntryUnderAffine, CurveUnderListed, StartRepeated, StepsRepeated}
 use Rattle.run_file.specs.declared.directive.Keyword.{Keyword}
 use Rattle.run_file.specs.declared.draft.Draft.{Draft}
-use Rattle.run_file.specs.declared.draft.Kind.{Kind}
 use Rattle.std.specs.Option.{option_map}
 
 -- a line's problem is the one that is said; want of memory says nothing
@@ -35,80 +34,78 @@ abbrev pub numbers_of : List (List ℕ) → Result (List ℕ) Problem
 numbers_of [] = Ok []
 numbers_of (w ∷ ws) = and_then (number_of w) (λ n. with_first n (numbers_of ws))
 
+pub data Said : Type 0 where
+  listed_plant : ℕ → List Entry → Said
+  affine_plant : ℕ → List Curve → Said
+
+abbrev pub plant_of : Plant → Said
+plant_of (Plant.Listed default entries) = listed_plant default (vec_items entries)
+plant_of (Plant.Affine modulus curves) = affine_plant modulus (vec_items curves)
+
 -- what the lines so far say
 pub record Sofar : Type 0 where
-  pub kind : Option Kind
-  pub entries : List Entry
-  pub curves : List Curve
+  pub plant : Option Said
   pub starts : Option (List ℕ)
   pub steps : Option ℕ
   pub inputs : List ℕ
 
 abbrev pub so_far : Draft → Sofar
 so_far d = record {
-  kind = d.kind;
-  entries = vec_items d.entries;
-  curves = vec_items d.curves;
+  plant = option_map plant_of d.plant;
   starts = option_map vec_items d.starts;
   steps = d.steps;
   inputs = vec_items d.inputs;
 }
 
 abbrev pub nothing : Sofar
-nothing = record { kind = None; entries = []; curves = []; starts = None; steps = None; inputs = [] }
+nothing = record { plant = None; starts = None; steps = None; inputs = [] }
 
--- the plant is named once, and before all else
-abbrev pub unnamed : Option Kind → Result (Unit {0}) Problem
-unnamed None = Ok tt
-unnamed (Some k) = Err PlantRepeated
-
-abbrev pub named : Option Kind → Result (Unit {0}) Problem
+-- the plant is named before all else
+abbrev pub named : Option Said → Result (Unit {0}) Problem
 named None = Err PlantNotFirst
-named (Some k) = Ok tt
+named (Some p) = Ok tt
 
 -- entries are for a listed plant, and curves for an affine one
-abbrev pub listed : Option Kind → Result (Unit {0}) Problem
-listed None = Err PlantNotFirst
-listed (Some (Kind.Listed d)) = Ok tt
-listed (Some (Kind.Affine m)) = Err EntryUnderAffine
+abbrev pub entry_more : Option Said → Result Entry Problem → Result Said Problem
+entry_more None e = Err PlantNotFirst
+entry_more (Some (listed_plant d es)) e = and_then e (λ e. Ok (listed_plant d (es ++ e ∷ [])))
+entry_more (Some (affine_plant m cs)) e = Err EntryUnderAffine
 
-abbrev pub affine : Option Kind → Result (Unit {0}) Problem
-affine None = Err PlantNotFirst
-affine (Some (Kind.Listed d)) = Err CurveUnderListed
-affine (Some (Kind.Affine m)) = Ok tt
+abbrev pub curve_more : Option Said → Result Curve Problem → Result Said Problem
+curve_more None c = Err PlantNotFirst
+curve_more (Some (listed_plant d es)) c = Err CurveUnderListed
+curve_more (Some (affine_plant m cs)) c = and_then c (λ c. Ok (affine_plant m (cs ++ c ∷ [])))
 
 -- not given before
 abbrev pub fresh : {X : Type 0} → Problem → Option X → Result (Unit {0}) Problem
 fresh repeated None = Ok tt
 fresh repeated (Some x) = Err repeated
 
-abbrev pub with_kind : Sofar → Kind → Sofar
-with_kind d k = record { kind = Some k; entries = d.entries; curves = d.curves; starts = d.starts; steps = d.steps; inputs = d.inputs }
-
-abbrev pub with_entry : Sofar → Entry → Sofar
-with_entry d e = record { kind = d.kind; entries = d.entries ++ e ∷ []; curves = d.curves; starts = d.starts; steps = d.steps; inputs = d.inputs }
-
-abbrev pub with_curve : Sofar → Curve → Sofar
-with_curve d c = record { kind = d.kind; entries = d.entries; curves = d.curves ++ c ∷ []; starts = d.starts; steps = d.steps; inputs = d.inputs }
+abbrev pub with_plant : Sofar → Said → Sofar
+with_plant d p = record { plant = Some p; starts = d.starts; steps = d.steps; inputs = d.inputs }
 
 abbrev pub with_starts : Sofar → List ℕ → Sofar
-with_starts d ns = record { kind = d.kind; entries = d.entries; curves = d.curves; starts = Some ns; steps = d.steps; inputs = d.inputs }
+with_starts d ns = record { plant = d.plant; starts = Some ns; steps = d.steps; inputs = d.inputs }
 
 abbrev pub with_steps : Sofar → ℕ → Sofar
-with_steps d n = record { kind = d.kind; entries = d.entries; curves = d.curves; starts = d.starts; steps = Some n; inputs = d.inputs }
+with_steps d n = record { plant = d.plant; starts = d.starts; steps = Some n; inputs = d.inputs }
 
 abbrev pub with_inputs : Sofar → List ℕ → Sofar
-with_inputs d ns = record { kind = d.kind; entries = d.entries; curves = d.curves; starts = d.starts; steps = d.steps; inputs = d.inputs ++ ns }
+with_inputs d ns = record { plant = d.plant; starts = d.starts; steps = d.steps; inputs = d.inputs ++ ns }
+
+-- the plant is named once, by one number
+abbrev pub first_named : (ℕ → Said) → Sofar → List ℕ → Result Sofar Problem
+first_named plant d ns = and_then (fresh PlantRepeated d.plant) (λ _. and_then (one_of ns) (λ n. Ok (with_plant d (plant n))))
 
 -- what a directive adds, or the problem: first where it stands, then its numbers
 abbrev pub acted : Keyword → Sofar → List ℕ → Result Sofar Problem
-acted Keyword.Listed d ns = and_then (unnamed d.kind) (λ _. and_then (one_of ns) (λ n. Ok (with_kind d (Kind.Listed n))))
-acted Keyword.Affine d ns = and_then (unnamed d.kind) (λ _. and_then (one_of ns) (λ n. Ok (with_kind d (Kind.Affine n))))
-acted Keyword.Entry d ns = and_then (listed d.kind) (λ _. and_then (entry_of ns) (λ e. Ok (with_entry d e)))
-acted Keyword.Curve d ns = and_then (affine d.kind) (λ _. and_then (curve_of ns) (λ c. Ok (with_curve d c)))
-acted Keyword.Start d ns = and_then (named d.kind) (λ _. and_then (fresh StartRepeated d.starts) (λ _. Ok (with_starts d ns)))
-acted Keyword.Steps d ns = and_then (named d.kind) (λ _. and_then (fresh StepsRepeated d.steps) (λ _. and_then (one_of ns) (λ n. Ok (with_steps d n))))
-acted Keyword.Inputs d ns = and_then (named d.kind) (λ _. Ok (with_inputs d ns))
+acted Keyword.Listed d ns = first_named (λ n. listed_plant n []) d ns
+acted Keyword.Affine d ns = first_named (λ n. affine_plant n []) d ns
+acted Keyword.Entry d ns = and_then (entry_more d.plant (entry_of ns)) (λ p. Ok (with_plant d p))
+acted Keyword.Curve d ns = and_then (curve_more d.plant (curve_of ns)) (λ p. Ok (with_plant d p))
+acted Keyword.Start d ns = and_then (named d.plant) (λ _. and_then (fresh StartRepeated d.starts) (λ _. Ok (with_starts d ns)))
+acted Keyword.Steps d ns = and_then (named d.plant) (λ _. and_then (fresh StepsRepeated d.steps) (λ _. and_then (one_of ns) (λ n. Ok (with_steps d n))))
+acted Keyword.Inputs d ns = and_then (named d.plant) (λ _. Ok (with_inputs d ns))
 
 abbrev directive : Option Keyword → Sofar → Result (List ℕ) Problem → Result Sofar Problem
 directive None d ns = Err UnknownDirective
@@ -132,19 +129,11 @@ abbrev pub following : ℕ → Sofar → List (List ℕ) → Result Sofar LineEr
 following line d [] = Ok d
 following line d (l ∷ ls) = and_then (at_line line (line_says d (words_of l))) (λ said. following (line + 1) said ls)
 
-pub data Said : Type 0 where
-  listed_plant : ℕ → List Entry → Said
-  affine_plant : ℕ → List Curve → Said
-
 pub record Run : Type 0 where
   pub plant : Said
   pub starts : List ℕ
   pub steps : ℕ
   pub inputs : List ℕ
-
-abbrev pub plant_said : Kind → List Entry → List Curve → Said
-plant_said (Kind.Listed default) entries curves = listed_plant default entries
-plant_said (Kind.Affine modulus) entries curves = affine_plant modulus curves
 
 abbrev pub present : {X : Type 0} → ℕ → Problem → Option X → Result X LineError
 present line missing None = Err (record { line = line; problem = missing })
@@ -153,18 +142,14 @@ present line missing (Some x) = Ok x
 -- what is missing at the end is a problem of the last line
 abbrev pub finished : ℕ → Sofar → Result Run LineError
 finished line d =
-    and_then (present line PlantMissing d.kind) (λ kind.
+    and_then (present line PlantMissing d.plant) (λ plant.
     and_then (present line StartMissing d.starts) (λ starts.
     and_then (present line StepsMissing d.steps) (λ steps.
-    Ok (record { plant = plant_said kind d.entries d.curves; starts = starts; steps = steps; inputs = d.inputs }))))
+    Ok (record { plant = plant; starts = starts; steps = steps; inputs = d.inputs }))))
 
 -- the whole file
 abbrev pub run_said : List ℕ → Result Run LineError
 run_said bytes = and_then (following 1 nothing (lines_of bytes)) (finished (length (lines_of bytes)))
-
-abbrev pub plant_of : Plant → Said
-plant_of (Plant.Listed default entries) = listed_plant default (vec_items entries)
-plant_of (Plant.Affine modulus curves) = affine_plant modulus (vec_items curves)
 
 abbrev pub run_of : RunFile → Run
 run_of f = record { plant = plant_of f.plant; starts = vec_items f.starts; steps = f.steps; inputs = vec_items f.inputs }

@@ -2,11 +2,12 @@
 #![tactic(auto)]
 
 ghost use Rattle.std.specs.Prelude.{◌≡◌};
+ghost use Rattle.run_file.specs.Reading.{failed_at};
 ghost use Rattle.run_file.specs.declared.Halt.{Halt};
 
 use plant::affine::Curve;
 use plant::listed::Entry;
-use run_file_error::Problem;
+use run_file_error::{LineError, Problem, ReadFailure};
 use std::alloc::{AllocError, AllocFailed};
 
 mod directive;
@@ -33,10 +34,23 @@ pub struct RunFile {
 }
 
 /// Why a line is not taken: a problem of the text, or want of memory.
+// Not one generic enum with `ReadFailure`: `From<E>` would overlap with `From<AllocError>`.
 #[derive(Clone, Copy, Debug, PartialEq, Eq)]
 pub(crate) enum Halt {
     Problem(Problem),
     Memory,
+}
+
+impl Halt {
+    /// The failure of this line.
+    fn at(self, line: usize) -> ReadFailure
+        ensures { result ≡ failed_at line self }
+    {
+        match self {
+            Halt::Problem(problem) => ReadFailure::Line(LineError { line, problem }),
+            Halt::Memory => ReadFailure::Memory,
+        }
+    }
 }
 
 impl From<Problem> for Halt {

@@ -1,74 +1,38 @@
 //! The whole file, line after line.
 ghost use Rattle.std.specs.Prelude.{◌≡◌, length, IfOk};
-ghost use Rattle.run_file.specs.Text.{lines_of};
+ghost use Rattle.run_file.specs.Text.{lines_of, words_of};
 ghost use Rattle.run_file.specs.Grammar.{Grammar};
-ghost use Rattle.run_file.specs.Reading.{Tells, so_far, failed_at, following, finished, run_said, run_of, plant_said, plant_of};
+ghost use Rattle.run_file.specs.Reading.{Tells, so_far, line_says, at_line, following, finished, run_said, run_of};
 
-use crate::draft::{Draft, Kind};
-use crate::words::{Stop, split_front};
-use crate::{Halt, Plant, RunFile};
-use plant::affine::Curve;
-use plant::listed::Entry;
+use crate::RunFile;
+use crate::draft::Draft;
 use run_file_error::{LineError, Problem, ReadFailure};
 use std::alloc::Global;
-
-/// The plant with what belongs to it; the other list is empty.
-fn plant_of(kind: Kind, entries: Vec<Entry>, curves: Vec<Curve>) -> Plant
-    ensures { plant_of result ≡ plant_said kind entries.items curves.items }
-{
-    match kind {
-        Kind::Listed(default) => Plant::Listed { default, entries },
-        Kind::Affine(modulus) => Plant::Affine { modulus, curves },
-    }
-}
 
 /// What the lines say as a whole, where nothing is missing.
 fn finish(draft: Draft, line: usize) -> Result<RunFile, ReadFailure>
     ensures { Tells run_of result (finished line (so_far draft)) }
 {
+    let missing = |problem| LineError { line, problem };
     let Draft {
-        kind,
-        entries,
-        curves,
-        starts,
-        steps,
-        inputs,
-    } = draft;
-    let Some(kind) = kind else {
-        return Err(ReadFailure::Line(LineError {
-            line,
-            problem: Problem::PlantMissing,
-        }));
-    };
-    let Some(starts) = starts else {
-        return Err(ReadFailure::Line(LineError {
-            line,
-            problem: Problem::StartMissing,
-        }));
-    };
-    let Some(steps) = steps else {
-        return Err(ReadFailure::Line(LineError {
-            line,
-            problem: Problem::StepsMissing,
-        }));
-    };
-    let plant = plant_of(kind, entries, curves);
-    Ok(RunFile {
         plant,
         starts,
         steps,
         inputs,
+    } = draft;
+    Ok(RunFile {
+        plant: plant.ok_or(missing(Problem::PlantMissing))?,
+        starts: starts.ok_or(missing(Problem::StartMissing))?,
+        steps: steps.ok_or(missing(Problem::StepsMissing))?,
+        inputs,
     })
 }
 
-/// The failure of this line.
-fn at_line(line: usize, halt: Halt) -> ReadFailure
-    ensures { result ≡ failed_at line halt }
+/// Takes one line, whose number a failure gives.
+fn take_line(heap: Global, draft: &mut Draft, text: &[u8], line: usize) -> Result<(), ReadFailure>
+    ensures { Tells (λ _. so_far draft.new) result (at_line line (line_says (so_far draft.old) (words_of text.now))) }
 {
-    match halt {
-        Halt::Problem(problem) => ReadFailure::Line(LineError { line, problem }),
-        Halt::Memory => ReadFailure::Memory,
-    }
+    draft.line(heap, text).map_err(|halt| halt.at(line))
 }
 
 /// Takes every line, and answers how many there are.
@@ -76,20 +40,12 @@ fn take_lines(heap: Global, draft: &mut Draft, bytes: &[u8]) -> Result<usize, Re
     ensures said { Tells (λ _. so_far draft.new) result (following 1 (so_far draft.old) (lines_of bytes.now)) }
     ensures count { IfOk result (λ n. n ≡ length (lines_of bytes.now)) }
 {
-    let mut rest = bytes;
-    let mut line = 1;
-    loop {
-        let (text, after) = split_front(rest, Stop::LineEnd);
-        match draft.line(heap, text) {
-            Ok(()) => {}
-            Err(halt) => return Err(at_line(line, halt)),
-        }
-        if after.is_empty() {
-            return Ok(line);
-        }
-        rest = &after[1..];
+    let mut line = 0;
+    for text in bytes.split(|b| *b == b'\n') {
         line += 1;
+        take_line(heap, draft, text, line)?;
     }
+    Ok(line)
 }
 
 fn read_lines(heap: Global, bytes: &[u8]) -> Result<RunFile, ReadFailure>

@@ -1,85 +1,60 @@
-//! Lines, words and numbers of a text.
-ghost use Rattle.std.specs.Prelude.{◌≡◌, ◌+◌, ◌≤◌, length, take, drop};
-ghost use Rattle.run_file.specs.Text.{stops_at, until, from, words_in, onto, is_digit, number_of};
+//! Words and numbers of a line.
+ghost use Rattle.std.specs.Prelude.{◌≡◌, ◌+◌, ◌*◌, map, IfOk};
+ghost use Rattle.std.specs.Char.{is_ascii_digit};
+ghost use Rattle.std.specs.List.{list_all};
+ghost use Rattle.run_file.specs.Text.{blank, before_comment, words_of, small, number_of};
 
 use run_file_error::Problem;
+use std::alloc::{AllocError, Global};
 
-/// What ends a front part of the text: a line's end, a comment, a blank, or a byte of a word.
-#[derive(Clone, Copy)]
-pub(crate) enum Stop {
-    LineEnd,
-    Comment,
-    Blank,
-    Word,
+/// A space, a tab or a carriage return.
+fn is_blank(b: u8) -> bool
+    ensures { result ≡ blank b }
+{
+    matches!(b, b' ' | b'\t' | b'\r')
 }
 
-fn stops(at: Stop, b: u8) -> bool
-    ensures { result ≡ stops_at at b }
+/// The line up to its comment.
+fn before_comment(line: &[u8]) -> &[u8]
+    ensures { result.now ≡ before_comment line.now }
 {
-    match at {
-        Stop::LineEnd => b == b'\n',
-        Stop::Comment => b == b'#',
-        Stop::Blank => b == b' ' || b == b'\t' || b == b'\r',
-        Stop::Word => !(b == b' ' || b == b'\t' || b == b'\r'),
-    }
+    line.split(|b| *b == b'#').next().unwrap_or(line)
 }
 
-/// How many bytes stand before the first that stops.
-fn front_len(bytes: &[u8], at: Stop) -> usize
-    ensures within { result ≤ length bytes.now }
-    ensures front { take result bytes.now ≡ until (stops_at at) bytes.now }
-    ensures rest { drop result bytes.now ≡ from (stops_at at) bytes.now }
+/// The words of a line: those before its comment.
+pub(crate) fn words_of(heap: Global, line: &[u8]) -> Result<Vec<&[u8]>, AllocError>
+    ensures { IfOk result (λ words. map (λ w. w.now) words.items ≡ words_of line.now) }
 {
-    for (i, b) in bytes.iter().enumerate() {
-        if stops(at, *b) {
-            return i;
-        }
-    }
-    bytes.len()
+    before_comment(line)
+        .split(|b| is_blank(*b))
+        .filter(|word| !word.is_empty())
+        .collect(heap)
 }
 
-/// The bytes before the first that stops, and the rest from it on.
-pub(crate) fn split_front(bytes: &[u8], at: Stop) -> (&[u8], &[u8])
-    ensures front { result.0.now ≡ until (stops_at at) bytes.now }
-    ensures rest { result.1.now ≡ from (stops_at at) bytes.now }
-    ensures within { length result.0.now + length result.1.now ≤ length bytes.now }
+/// Whether the word has decimal digits alone.
+fn is_decimal(word: &[u8]) -> bool
+    ensures { result ≡ list_all is_ascii_digit word.now }
 {
-    bytes.split_at(front_len(bytes, at))
+    word.iter().all(|b| b.is_ascii_digit())
 }
 
-/// The first word and what follows it; an empty word where there is none.
-pub(crate) fn next_word(text: &[u8]) -> (&[u8], &[u8])
-    ensures words { words_in text.now ≡ onto result.0.now (words_in result.1.now) }
-    ensures within { length result.0.now + length result.1.now ≤ length text.now }
+/// The value with one digit more.
+fn with_digit(value: u32, digit: u8) -> Result<u32, Problem>
+    ensures { result ≡ small (10 * value + digit) }
 {
-    let (_, word_on) = split_front(text, Stop::Word);
-    split_front(word_on, Stop::Blank)
-}
-
-/// One more than the largest number.
-const LIMIT: u64 = 1 << 32;
-
-fn is_digit(b: u8) -> bool
-    ensures { result ≡ is_digit b }
-{
-    b >= b'0' && b <= b'9'
+    u32::try_from(10 * u64::from(value) + u64::from(digit)).map_err(|_| Problem::NumberTooLarge)
 }
 
 /// The number that the word writes.
 pub(crate) fn number(word: &[u8]) -> Result<u32, Problem>
     ensures { result ≡ number_of word.now }
 {
-    let mut value: u64 = 0;
+    if !is_decimal(word) {
+        return Err(Problem::NotANumber);
+    }
+    let mut value = 0;
     for b in word {
-        if !is_digit(*b) {
-            return Err(Problem::NotANumber);
-        }
-        // Past the limit the digits are still looked at, and their value no more.
-        value = (10 * value + u64::from(*b - b'0')).min(LIMIT);
+        value = with_digit(value, *b - b'0')?;
     }
-    if value < LIMIT {
-        Ok(value as u32)
-    } else {
-        Err(Problem::NumberTooLarge)
-    }
+    Ok(value)
 }

@@ -3,6 +3,7 @@
 
 ghost use Rattle.std.specs.Prelude.{◌≡◌, Some};
 ghost use Rattle.run_file_error.specs.Texts.{problem_text, line_text, failure_text};
+ghost use Rattle.run_file_error.specs.declared.ReadFailure.{ReadFailure};
 
 use std::fmt;
 
@@ -57,27 +58,11 @@ pub enum ReadFailure {
     Memory,
 }
 
-/// The problem in words.
-fn text_of(problem: Problem) -> &'static str
-    ensures { result.now ≡ problem_text problem }
-{
-    match problem {
-        Problem::UnknownDirective => "unknown directive",
-        Problem::NotANumber => "not a decimal number",
-        Problem::NumberTooLarge => "a number above 4294967295",
-        Problem::TooFewNumbers => "too few numbers",
-        Problem::TooManyNumbers => "too many numbers",
-        Problem::SymbolTooLarge => "a symbol above 31",
-        Problem::CoefficientTooLarge => "a coefficient above 65535",
-        Problem::PlantNotFirst => "the plant is not named yet",
-        Problem::PlantRepeated => "the plant is named twice",
-        Problem::EntryUnderAffine => "an entry for an affine plant",
-        Problem::CurveUnderListed => "a curve for a listed plant",
-        Problem::StartRepeated => "a second start line",
-        Problem::StepsRepeated => "a second steps line",
-        Problem::PlantMissing => "the file ends without a plant",
-        Problem::StartMissing => "the file ends without a start line",
-        Problem::StepsMissing => "the file ends without a steps line",
+impl From<LineError> for ReadFailure {
+    ghost from_gives = { λ e r. r ≡ ReadFailure.Line e };
+
+    fn from(error: LineError) -> ReadFailure {
+        ReadFailure::Line(error)
     }
 }
 
@@ -85,8 +70,24 @@ impl fmt::Display for Problem {
     ghost output = { λ p. Some (problem_text p) };
 
     fn fmt<W: fmt::Write>(&self, f: &mut fmt::Formatter<W>) -> fmt::Result {
-        let text = text_of(*self);
-        write!(f, "{text}")
+        f.write_str(match self {
+            Problem::UnknownDirective => "unknown directive",
+            Problem::NotANumber => "not a decimal number",
+            Problem::NumberTooLarge => "a number above 4294967295",
+            Problem::TooFewNumbers => "too few numbers",
+            Problem::TooManyNumbers => "too many numbers",
+            Problem::SymbolTooLarge => "a symbol above 31",
+            Problem::CoefficientTooLarge => "a coefficient above 65535",
+            Problem::PlantNotFirst => "the plant is not named yet",
+            Problem::PlantRepeated => "the plant is named twice",
+            Problem::EntryUnderAffine => "an entry for an affine plant",
+            Problem::CurveUnderListed => "a curve for a listed plant",
+            Problem::StartRepeated => "a second start line",
+            Problem::StepsRepeated => "a second steps line",
+            Problem::PlantMissing => "the file ends without a plant",
+            Problem::StartMissing => "the file ends without a start line",
+            Problem::StepsMissing => "the file ends without a steps line",
+        })
     }
 }
 
@@ -95,9 +96,7 @@ impl fmt::Display for LineError {
     ghost output = { λ e. Some (line_text e) };
 
     fn fmt<W: fmt::Write>(&self, f: &mut fmt::Formatter<W>) -> fmt::Result {
-        let line = self.line;
-        let text = text_of(self.problem);
-        write!(f, "run file line {line}: {text}")
+        write!(f, "run file line {}: {}", self.line, self.problem)
     }
 }
 
@@ -106,8 +105,8 @@ impl fmt::Display for ReadFailure {
 
     fn fmt<W: fmt::Write>(&self, f: &mut fmt::Formatter<W>) -> fmt::Result {
         match self {
-            ReadFailure::Line(error) => write!(f, "{error}"),
-            ReadFailure::Memory => write!(f, "run file: out of memory"),
+            ReadFailure::Line(line) => line.fmt(f),
+            ReadFailure::Memory => f.write_str("run file: out of memory"),
         }
     }
 }

@@ -1,39 +1,32 @@
-use Rattle.std.proofs.Common.{◌≡◌, ◌-◌, [], ◌∷◌, length, take, drop, sym, ap, ◌∙◌, arith, true-eqb, false-eqb}
-use Rattle.std.proofs.lemmas.List.{take_rest, length-drop}
-use Rattle.run_file.specs.Reading.{so_far, following}
-use Rattle.run_file.specs.Text.{lines_of, stops_at, from}
-use Rattle.run_file.specs.declared.words.Stop.TheVariants.{LineEnd}
-use Rattle.run_file.proofs.Fronts.{pieces_last, pieces_more, pieces_first, more}
-use Rattle.run_file.proofs.Sequences.{line_taken, line_failed}
+use Rattle.std.proofs.Common.{◌+◌, [], ◌∷◌, drop, length-append, sym, subst, ap, ◌∙◌, arith, rules, tests}
+use Rattle.std.specs.Prelude.{◌==◌}
+use Rattle.std.proofs.lemmas.Iterator.Consumers.{YieldsList-at}
+use Rattle.std.proofs.lemmas.Iterator.Splits.{YieldsList-from_slice_split}
+use Rattle.std.proofs.lemmas.Result.{err_from_is_err_and}
+use Rattle.run_file.specs.Directive.{and_then}
+use Rattle.run_file.specs.Reading.{Fails, so_far, following}
+use Rattle.run_file.specs.Text.{lines_of}
+use Rattle.run_file.proofs.Sequences.{lines_more, lines_all, lines_end, fails_on}
 use Rattle.run_file.proofs.reading.take_lines.Goals as goal
 
-pub loop-line-preserved : goal.loop-line-preserved
-loop-line-preserved c =
-    let after = c.split_front.result.1.now in
-    let next : take (length after - 1) (drop 1 after) ≡ drop 1 after = take_rest after 1 in
-    let lines : lines_of c.loop-line.rest.now ≡ c.split_front.result.0.now ∷ lines_of (take (length after - 1) (drop 1 after)) = pieces_more (stops_at LineEnd) c.loop-line.rest.now c.split_front.result.0.now c.split_front.result.1.now c.split_front.ensures.front c.split_front.ensures.rest (false-eqb _ 0 c.if-is_empty.ensures) ∙ ap (λ l. c.split_front.result.0.now ∷ lines_of l) (sym next) in
-    let long = ap length lines in
-    let left = ap length next ∙ length-drop 1 after in
-    let some = false-eqb _ 0 c.if-is_empty.ensures in
-    let within = c.split_front.ensures.within in (
-      c.loop-line.invariant.0 ∙ ap (following c.loop-line.line (so_far c.loop-line.draft)) lines ∙ line_taken c.loop-line.line (so_far c.loop-line.draft) c.split_front.result.0.now (lines_of (take (length after - 1) (drop 1 after))) (so_far c.line.new.self) c.in-Ok.ensures,
-      omega (arith, c.loop-line.invariant.1),
-      omega (arith, c.loop-line.invariant.2),
-    )
+pub loop-text-preserved : goal.loop-text-preserved
+loop-text-preserved c = (
+  omega (arith, c.loop-text.invariant.0, length-append c.loop-text.yielded (c.in-Some.text ∷ [])),
+  c.loop-text.invariant.1
+      ∙ lines_more c.args.bytes.now (YieldsList-at c.into_iter-text-iterator.ensures.into_iter_gives (YieldsList-from_slice_split _ (λ b. b == 10) c.args.bytes.now c.split-text-items.ensures.rest c.split-text-items.ensures.done c.split-text-items.ensures.closure (λ x r q k. search (rules, tests)))) c.loop-text.yielded c.loop-text.text-iterator c.loop-text.yielded_by c.next.result c.next.new.self c.next.ensures.steps _ c.loop-text.invariant.0 _ c.in-Some.text c.in-Some.is
+      ∙ ap (λ r. and_then r (λ said. following (c.loop-text.line + 1 + 1) said (drop (c.loop-text.line + 1) (lines_of c.args.bytes.now)))) c.in_ok-take_line.ensures,
+)
 
-pub returns-in-Err : goal.returns-in-Err
-returns-in-Err c =
-    let lines = pieces_first (stops_at LineEnd) c.loop-line.rest.now ∙ ap (λ t. t ∷ more (stops_at LineEnd) (from (stops_at LineEnd) c.loop-line.rest.now)) (sym c.split_front.ensures.front) in
-    record {
-      said = line_failed c.loop-line.line (so_far c.loop-line.draft) c.split_front.result.0.now (more (stops_at LineEnd) (from (stops_at LineEnd) c.loop-line.rest.now)) _ c.at_line.result c.in-Err.halt (c.loop-line.invariant.0 ∙ ap (following c.loop-line.line (so_far c.loop-line.draft)) lines) c.at_line.ensures c.in-Err.ensures;
-      count = tt;
-    }
+pub returns-in_err-take_line-clause-said : goal.returns-in_err-take_line-clause-said
+returns-in_err-take_line-clause-said c =
+    let p = err_from_is_err_and c.from_residual.result c.from_residual.ensures.1 in
+    let more = c.loop-text.invariant.1 ∙ lines_more c.args.bytes.now (YieldsList-at c.into_iter-text-iterator.ensures.into_iter_gives (YieldsList-from_slice_split _ (λ b. b == 10) c.args.bytes.now c.split-text-items.ensures.rest c.split-text-items.ensures.done c.split-text-items.ensures.closure (λ x r q k. search (rules, tests)))) c.loop-text.yielded c.loop-text.text-iterator c.loop-text.yielded_by c.next.result c.next.new.self c.next.ensures.steps _ c.loop-text.invariant.0 (so_far c.loop-text.draft) c.in-Some.text c.in-Some.is in
+    rw (p.1, p.2) (subst (λ said. Fails c.in_err-take_line.field-0.0 said) (sym more) (fails_on _ _ (λ said. following (c.loop-text.line + 1 + 1) said (drop (c.loop-text.line + 1) (lines_of c.args.bytes.now))) c.in_err-take_line.ensures))
 
-pub returns-then-is_empty : goal.returns-then-is_empty
-returns-then-is_empty c =
-    let lines : lines_of c.loop-line.rest.now ≡ c.split_front.result.0.now ∷ [] = pieces_last (stops_at LineEnd) c.loop-line.rest.now c.split_front.result.0.now c.split_front.result.1.now c.split_front.ensures.front c.split_front.ensures.rest (true-eqb _ 0 c.if-is_empty.ensures) in
-    let long = ap length lines in
-    record {
-      said = c.loop-line.invariant.0 ∙ ap (following c.loop-line.line (so_far c.loop-line.draft)) lines ∙ line_taken c.loop-line.line (so_far c.loop-line.draft) c.split_front.result.0.now [] (so_far c.line.new.self) c.in-Ok.ensures;
-      count = omega (arith, c.loop-line.invariant.1);
-    }
+pub returns-clause-said : goal.returns-clause-said
+returns-clause-said c =
+    c.loop-text.invariant.1
+    ∙ lines_end c.args.bytes.now (YieldsList-at c.into_iter-text-iterator.ensures.into_iter_gives (YieldsList-from_slice_split _ (λ b. b == 10) c.args.bytes.now c.split-text-items.ensures.rest c.split-text-items.ensures.done c.split-text-items.ensures.closure (λ x r q k. search (rules, tests)))) c.loop-text.yielded c.loop-text.text-iterator c.loop-text.yielded_by c.next.result c.next.new.self c.next.ensures.steps _ c.loop-text.invariant.0 _ c.in-None.is
+
+pub returns-clause-count : goal.returns-clause-count
+returns-clause-count c = lines_all c.args.bytes.now (YieldsList-at c.into_iter-text-iterator.ensures.into_iter_gives (YieldsList-from_slice_split _ (λ b. b == 10) c.args.bytes.now c.split-text-items.ensures.rest c.split-text-items.ensures.done c.split-text-items.ensures.closure (λ x r q k. search (rules, tests)))) c.loop-text.yielded c.loop-text.text-iterator c.loop-text.yielded_by c.next.result c.next.new.self c.next.ensures.steps _ c.loop-text.invariant.0 (so_far c.loop-text.draft) c.in-None.is

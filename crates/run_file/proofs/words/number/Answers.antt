@@ -1,23 +1,35 @@
-use Rattle.std.proofs.Common.{◌≡◌, ◌+◌, ◌-◌, ◌*◌, ◌^◌, min, get_or, drop, sym, ap, ◌∙◌, arith}
-use Rattle.run_file.specs.Text.{number_after}
-use Rattle.run_file.proofs.Numbers.{number_more, number_stops, number_ends, small-fits, small_past, capped}
+use Rattle.std.proofs.Common.{◌+◌, Err, cond, drop, sym, ap, ◌∙◌, arith}
+use Rattle.std.proofs.lemmas.List.{at_drop_all}
+use Rattle.std.proofs.lemmas.Result.{err_from_is_err_and}
+use Rattle.run_file_error.specs.declared.Problem.TheVariants.{NotANumber}
+use Rattle.run_file.specs.Text.{value_after, small}
+use Rattle.run_file.proofs.Numbers.{digit_at, value_more, small-fits, small_is, too_large}
 use Rattle.run_file.proofs.words.number.Goals as goal
 
-pub returns-then-not-is_digit : goal.returns-then-not-is_digit
-returns-then-not-is_digit c = sym (number_stops _ _ _ c.loop-b-test.true (sym c.if-not-is_digit.ensures)) ∙ c.loop-b.invariant.1
+pub overflow_sub-b : goal.overflow_sub-b
+overflow_sub-b c = digit_at _ _ (sym c.if-not-is_decimal.ensures) c.loop-b-test.true
 
 pub loop-b-preserved : goal.loop-b-preserved
 loop-b-preserved c =
-    let v : c.min-value.result ≡ min (10 * c.loop-b.value + (get_or c.args.word.now c.loop-b.b-index 0 - 48)) (2 ^ 32) = omega arith in (
+    let is = small_is _ _ (sym c.in_ok-value.ensures) in (
       omega arith,
-      ap (λ m. number_after m (drop (c.loop-b.b-index + 1) c.args.word.now)) v
-          ∙ capped (10 * c.loop-b.value + (get_or c.args.word.now c.loop-b.b-index 0 - 48)) (drop (c.loop-b.b-index + 1) c.args.word.now)
-          ∙ number_more _ _ _ c.loop-b-test.true (sym c.if-not-is_digit.ensures)
+      ap (λ v. small (value_after v (drop (c.loop-b.b-index + 1) c.args.word.now))) is
+          ∙ ap small (sym (value_more c.loop-b.value _ _ c.loop-b-test.true))
           ∙ c.loop-b.invariant.1,
     )
 
-pub returns-then-value-lt-LIMIT : goal.returns-then-value-lt-LIMIT
-returns-then-value-lt-LIMIT c = sym (number_ends _ _ _ c.loop-b-test.false ∙ small-fits _ (omega arith)) ∙ c.loop-b.invariant.1
+pub returns-in_err-value : goal.returns-in_err-value
+returns-in_err-value c =
+    let p = err_from_is_err_and c.from_residual.result c.from_residual.ensures.1 in
+    rw (p.1, p.2) (sym (
+    ap (λ b. cond b (small (value_after 0 c.args.word.now)) (Err NotANumber)) (sym c.if-not-is_decimal.ensures)
+    ∙ sym c.loop-b.invariant.1
+    ∙ ap small (value_more c.loop-b.value _ _ c.loop-b-test.true)
+    ∙ too_large _ (drop (c.loop-b.b-index + 1) c.args.word.now) _ (sym c.in_err-value.ensures)))
 
-pub returns-else-value-lt-LIMIT : goal.returns-else-value-lt-LIMIT
-returns-else-value-lt-LIMIT c = sym (number_ends _ _ _ c.loop-b-test.false ∙ small_past _ (omega arith)) ∙ c.loop-b.invariant.1
+pub returns : goal.returns
+returns c = sym (
+    ap (λ b. cond b (small (value_after 0 c.args.word.now)) (Err NotANumber)) (sym c.if-not-is_decimal.ensures)
+    ∙ sym c.loop-b.invariant.1
+    ∙ ap small (at_drop_all (value_after c.loop-b.value) _ _ c.loop-b-test.false)
+    ∙ small-fits _ (omega arith))
