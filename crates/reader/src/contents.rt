@@ -48,10 +48,7 @@ impl Draft {
         ensures { result ≡ (if ltb (args_info (map term_info_in self.now.parts.terms.items) args).height 5 then Some (args_info (map term_info_in self.now.parts.terms.items) args) else None) }
     {
         match args {
-            Args::Zero => Some(TermInfo {
-                height: 0,
-                has_input: false,
-            }),
+            Args::Zero => Some(TermInfo::BLANK),
             Args::One(a) => {
                 let x = self.term_info(a);
                 one_higher(x.height, x.has_input)
@@ -79,10 +76,7 @@ impl Draft {
         ensures { result ≡ term_info (map term_info_in self.now.parts.terms.items) term }
     {
         match term {
-            Term::Reading(_) => TermInfo {
-                height: 0,
-                has_input: false,
-            },
+            Term::Reading(_) => TermInfo::BLANK,
             Term::Input(_) => TermInfo {
                 height: 0,
                 has_input: true,
@@ -98,10 +92,7 @@ impl Draft {
         ensures { result ≡ formula_info (map formula_info_in self.now.parts.formulas.items) formula }
     {
         match formula {
-            Formula::True | Formula::Bit(_) => FormulaInfo {
-                has_question: false,
-                has_claim: false,
-            },
+            Formula::True | Formula::Bit(_) => FormulaInfo::BLANK,
             Formula::Question(_) => FormulaInfo {
                 has_question: true,
                 has_claim: false,

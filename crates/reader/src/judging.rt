@@ -28,40 +28,21 @@ impl Draft {
     pub(crate) fn arity(&self, symbol: u8) -> u8
         ensures { result ≡ slice_index self.now.parts.symbols.items symbol }
     {
-        let n = symbol as usize;
-        if n < self.parts.symbols.len() {
-            self.parts.symbols[n]
-        } else {
-            0
-        }
+        self.parts.symbols.get(symbol as usize).copied().unwrap_or(0)
     }
 
     pub(crate) fn term_info(&self, term: u8) -> TermInfo
         ensures { result ≡ slice_index_or (map term_info_in self.now.parts.terms.items) term no_info }
     {
-        let n = term as usize;
-        if n < self.parts.terms.len() {
-            self.parts.terms[n].info
-        } else {
-            TermInfo {
-                height: 0,
-                has_input: false,
-            }
-        }
+        let entry = self.parts.terms.get(term as usize);
+        entry.map(|entry| entry.info).unwrap_or(TermInfo::BLANK)
     }
 
     pub(crate) fn formula_info(&self, formula: u8) -> FormulaInfo
         ensures { result ≡ slice_index_or (map formula_info_in self.now.parts.formulas.items) formula plain }
     {
-        let n = formula as usize;
-        if n < self.parts.formulas.len() {
-            self.parts.formulas[n].info
-        } else {
-            FormulaInfo {
-                has_question: false,
-                has_claim: false,
-            }
-        }
+        let entry = self.parts.formulas.get(formula as usize);
+        entry.map(|entry| entry.info).unwrap_or(FormulaInfo::BLANK)
     }
 
     fn decode(&self, kind: Kind, body: &[u8]) -> Option<Record>
@@ -197,23 +178,13 @@ impl Draft {
     fn bit_next(&self, bit: u8) -> Option<u8>
         ensures { result ≡ (get_or self.now.parts.bits.items bit no_bit).next }
     {
-        let n = bit as usize;
-        if n < self.parts.bits.len() {
-            self.parts.bits[n].next
-        } else {
-            None
-        }
+        self.parts.bits.get(bit as usize).and_then(|bit| bit.next)
     }
 
     fn reading_next(&self, reading: u8) -> Option<u8>
         ensures { result ≡ (get_or self.now.parts.readings.items reading no_reading).next }
     {
-        let n = reading as usize;
-        if n < self.parts.readings.len() {
-            self.parts.readings[n].next
-        } else {
-            None
-        }
+        self.parts.readings.get(reading as usize).and_then(|reading| reading.next)
     }
 
     // Whether the invariant and the height bound are given.
