@@ -1,5 +1,5 @@
 -- One record more, or the first fault.
-use Rattle.std.proofs.Common.{◌≡◌, ℕ, ◌+◌, ◌-◌, ◌<◌, ◌≤◌, true, false, List, [], ◌∷◌, ◌++◌, length, get_or, take, drop, Result, sym, refl, ap, ◌∙◌, subst, inl, inr, append_assoc, arith, length-append, length-drop}
+use Rattle.std.proofs.Common.{◌≡◌, ℕ, ◌+◌, ◌-◌, ◌<◌, ◌≤◌, true, false, List, [], ◌∷◌, ◌++◌, length, get_or, take, drop, Ok, Err, Result, sym, refl, ap, ◌∙◌, subst, inl, inr, append_assoc, arith, length-append, length-drop}
 use Rattle.std.proofs.lemmas.List.{drop_more, drop_all, drop-drop, take-append-drop, append-nil, length_push, length-take-le}
 use Rattle.fault.specs.declared.Place.{Place}
 use Rattle.fault.specs.declared.SheetFault.{SheetFault}
@@ -85,11 +85,17 @@ module _ (bytes : List ℕ) (p : Place) (d : Draft) (xs : List Record) (h : Read
     refused_stops e TrailingBytes v = absurd v
 
     -- what was judged, at the answer
-    pub judged : (r : Result Record SheetFault) → r ≡ judge (draft_of d) k b → Says (draft_of d) k b r
+    judged : (r : Result Record SheetFault) → r ≡ judge (draft_of d) k b → Says (draft_of d) k b r
     judged r e = subst (Says (draft_of d) k b) (sym e) (judge_says (draft_of d) k b whole_b)
 
-    pub refused : (k ≡ Kind.End → ⊥) → (f : SheetFault) → Refused (draft_of d) k b f → FaultyAt bytes xs f p
+    refused : (k ≡ Kind.End → ⊥) → (f : SheetFault) → Refused (draft_of d) k b f → FaultyAt bytes xs f p
     refused e f v = faulty f (subst (λ s. Stops s (drop p.byte bytes) f) h.system (refused_stops e f v))
+
+    pub refused_at : (k ≡ Kind.End → ⊥) → (f : SheetFault) → Err f ≡ judge (draft_of d) k b → FaultyAt bytes xs f p
+    refused_at e f is = refused e f (judged (Err f) is)
+
+    pub good_at : (x : Record) → Ok x ≡ judge (draft_of d) k b → Good (draft_of d) k b x
+    good_at x is = judged (Ok x) is
 
     pub addable : (x : Record) → Good (draft_of d) k b x → keeps (draft_of d) x ≡ true
     addable x g = obeys-keeps (draft_of d) x g.allowed.obeys

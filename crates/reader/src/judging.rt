@@ -28,7 +28,11 @@ impl Draft {
     pub(crate) fn arity(&self, symbol: u8) -> u8
         ensures { result ≡ slice_index self.now.parts.symbols.items symbol }
     {
-        self.parts.symbols.get(symbol as usize).copied().unwrap_or(0)
+        self.parts
+            .symbols
+            .get(symbol as usize)
+            .copied()
+            .unwrap_or(0)
     }
 
     pub(crate) fn term_info(&self, term: u8) -> TermInfo
@@ -184,7 +188,10 @@ impl Draft {
     fn reading_next(&self, reading: u8) -> Option<u8>
         ensures { result ≡ (get_or self.now.parts.readings.items reading no_reading).next }
     {
-        self.parts.readings.get(reading as usize).and_then(|reading| reading.next)
+        self.parts
+            .readings
+            .get(reading as usize)
+            .and_then(|reading| reading.next)
     }
 
     // Whether the invariant and the height bound are given.

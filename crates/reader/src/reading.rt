@@ -20,12 +20,8 @@ use std::alloc::{AllocError, Global};
 fn kind_at(bytes: &[u8], at: usize) -> Result<Kind, SheetFault>
     ensures { MatchResult result (λ k. KindAt bytes.now at k) (λ f. NoKindAt bytes.now at f) }
 {
-    if at >= bytes.len() {
-        return Err(SheetFault::Truncated);
-    }
-    let Some(kind) = Kind::of_letter(bytes[at]) else {
-        return Err(SheetFault::UnknownLetter);
-    };
+    let letter = *bytes.get(at).ok_or(SheetFault::Truncated)?;
+    let kind = Kind::of_letter(letter).ok_or(SheetFault::UnknownLetter)?;
     if bytes.len() - at - 1 < kind.body_length() {
         return Err(SheetFault::Truncated);
     }
@@ -62,22 +58,16 @@ fn advance(
     requires { ReadTo bytes.now place draft.old records.old.items }
     ensures { MatchResult result (λ o. MatchOption o (Ended bytes.now draft.new records.new.items) (λ p. ReadTo bytes.now p draft.new records.new.items × (place.byte < p.byte) × (p.byte ≤ length bytes.now))) (λ e. Failed bytes.now records.new.items e) }
 {
-    let kind = match kind_at(bytes, place.byte) {
-        Ok(kind) => kind,
-        Err(fault) => return Err(Failure::Fault(Fault::Sheet(fault, place))),
-    };
-    if let Kind::End = kind {
-        return match finish(bytes, place, draft, records) {
-            Ok(()) => Ok(None),
-            Err(fault) => Err(Failure::Fault(Fault::Sheet(fault, place))),
-        };
+    let kind = kind_at(bytes, place.byte).map_err(|fault| Fault::Sheet(fault, place))?;
+    if kind == Kind::End {
+        finish(bytes, place, draft, records).map_err(|fault| Fault::Sheet(fault, place))?;
+        return Ok(None);
     }
     let start = place.byte + 1;
     let end = start + kind.body_length();
-    let record = match draft.judge(kind, &bytes[start..end]) {
-        Ok(record) => record,
-        Err(fault) => return Err(Failure::Fault(Fault::Sheet(fault, place))),
-    };
+    let record = draft
+        .judge(kind, &bytes[start..end])
+        .map_err(|fault| Fault::Sheet(fault, place))?;
     draft.add(record)?;
     records.push(record)?;
     Ok(Some(Place {
@@ -144,12 +134,6 @@ pub fn read_records(bytes: &[u8], heap: Global, records: &mut Vec<Record>) -> Re
     Ok(draft.into_sheet())
 }
 
-fn store(place: &mut Sheet, sheet: Sheet)
-    ensures { place.new ≡ sheet }
-{
-    *place = sheet;
-}
-
 /// Reads a sheet into the caller's place, which keeps its earlier sheet unless the bytes are a whole one.
 /// The first clause says which records were read and which fault was met first, and the second what that
 /// is for: a sheet is read exactly when the bytes describe it.
@@ -159,13 +143,8 @@ pub fn read(bytes: &[u8], heap: Global, place: &mut Sheet) -> Result<(), Failure
     ensures back { (s : System) → Lawful s → complete s ≡ true → Describe (written_out s) s }
 {
     let mut records = Vec::new(heap);
-    match read_records(bytes, heap, &mut records) {
-        Ok(sheet) => {
-            store(place, sheet);
-            Ok(())
-        }
-        Err(failure) => Err(failure),
-    }
+    *place = read_records(bytes, heap, &mut records)?;
+    Ok(())
 }
 
 /// The sheet that a place holds at first: the invariant is true, and the height bound is 0.
