@@ -107,7 +107,7 @@ module _ (bytes : List ℕ) (p : Place) (d : Draft) (xs : List Record) (h : Read
         let f : bytes ≡ written_all xs ++ (written x ++ drop p'.byte bytes) =
         h.front ∙ ap (λ l. written_all xs ++ l) (rest_is ∙ (ap (λ l. l ++ drop (p.byte + 1 + body_length k) bytes) (sym g.is) ∙ ap (λ n. written x ++ drop n bytes) (sym at))) in
         let body : length (written x) ≡ body_length k + 1 = ap length g.is ∙ (let q = whole_b in omega arith) in
-        record { front = f ∙ (sym (append_assoc (written_all xs) (written x) (drop p'.byte bytes)) ∙ ap (λ l. l ++ drop p'.byte bytes) (sym w)); byte = omega (arith, h.byte, body, ap length w, length-append (written_all xs) (written x)); number = number ∙ (ap (λ n. n + 1) h.number ∙ (sym (length_push xs x) ∙ ap length (sym is-xs))); few = omega (arith, h.few); allowed = subst (AllAllowed nothing) (sym is-xs) (allowed_push nothing xs x h.allowed (subst (λ s. Allowed s x) h.system g.allowed)); system = added.system ∙ (ap (λ s. add s x) h.system ∙ (sym (gather-push nothing xs x) ∙ ap describe (sym is-xs))); informed = added.informed }
+        record { front = f ∙ (sym (append_assoc (written_all xs) (written x) (drop p'.byte bytes)) ∙ ap (λ l. l ++ drop p'.byte bytes) (sym w)); byte = omega (arith, h.byte, body, ap length w, length-append (written_all xs) (written x)); number = number ∙ (ap (λ n. n + 1) h.number ∙ (sym (length_push xs x) ∙ ap length (sym is-xs))); few = omega (arith, h.few); allowed = subst (AllAllowed nothing) (sym is-xs) (allowed_push nothing xs x h.allowed (subst (λ s. Allowed s x) h.system g.allowed)); system = added ∙ (ap (λ s. add s x) h.system ∙ (sym (gather-push nothing xs x) ∙ ap describe (sym is-xs))) }
 
   -- at the end record
   module _ (a : KindAt bytes p.byte Kind.End) where
@@ -123,7 +123,7 @@ module _ (bytes : List ℕ) (p : Place) (d : Draft) (xs : List Record) (h : Read
 
     pub ended : complete (draft_of d) ≡ true → length bytes ≤ p.byte + 1 → Ended bytes d xs
     ended has last =
-        record { is = h.front ∙ ap (λ l. written_all xs ++ l) (end_is ∙ ap (λ l. letter Kind.End ∷ l) (drop_all (p.byte + 1) bytes last)); allowed = h.allowed; system = h.system; informed = h.informed; whole = has }
+        record { is = h.front ∙ ap (λ l. written_all xs ++ l) (end_is ∙ ap (λ l. letter Kind.End ∷ l) (drop_all (p.byte + 1) bytes last)); allowed = h.allowed; system = h.system; whole = has }
 
 -- the body as the reader cuts it out
 pub body_taken : (bytes : List ℕ) (i m n : ℕ) → m ≡ n → take (i + m - i) (drop i bytes) ≡ take n (drop i bytes)

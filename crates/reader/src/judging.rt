@@ -7,7 +7,6 @@ ghost use Rattle.reader.specs.Outcome.{complete};
 ghost use Rattle.sheet.specs.Rules.{no_info, plain, room, names, keeps, count, fresh, args_below, args_info};
 ghost use Rattle.sheet.specs.System.{no_bit, no_reading};
 ghost use Rattle.reader.specs.Drafts.{draft_of};
-ghost use Rattle.sheet.specs.Stored.{Informed};
 
 use crate::decode;
 use crate::draft::Draft;
@@ -127,10 +126,10 @@ impl Draft {
     }
 
     // Whether the record names only things that are there.
-    fn names(&self, record: Record) -> bool
-        ensures { result ≡ names (draft_of self.now) (count (draft_of self.now) (kind_of «record»)) «record» }
+    fn names(&self, what: Record) -> bool
+        ensures { result ≡ names (draft_of self.now) (count (draft_of self.now) (kind_of what)) what }
     {
-        match record {
+        match what {
             Record::Bit(_) | Record::Symbol(_) | Record::Input | Record::Bound(_) => true,
             Record::Reading(Start::Name(_)) => true,
             Record::Reading(Start::Constant(symbol)) => self.has(Kind::Symbol, symbol),
@@ -167,10 +166,10 @@ impl Draft {
     }
 
     // Whether the record gives nothing that an earlier one gave.
-    fn is_fresh(&self, record: Record) -> bool
-        ensures { result ≡ fresh (draft_of self.now) «record» }
+    fn is_fresh(&self, what: Record) -> bool
+        ensures { result ≡ fresh (draft_of self.now) what }
     {
-        match record {
+        match what {
             Record::NextBit(bit, _) => self.bit_next(bit).is_none(),
             Record::NextReading(reading, _) => self.reading_next(reading).is_none(),
             Record::Invariant(_) => self.invariant.is_none(),
@@ -203,8 +202,7 @@ impl Draft {
 
     // The record that the body writes, or the first rule against it.
     pub(crate) fn judge(&self, kind: Kind, body: &[u8]) -> Result<Record, SheetFault>
-        requires informed { Informed self.now.parts }
-        requires whole { length body.now ≡ body_length kind }
+        requires { length body.now ≡ body_length kind }
         ensures { result ≡ judge (draft_of self.now) kind body.now }
     {
         if !self.has_room(kind) {

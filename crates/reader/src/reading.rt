@@ -6,7 +6,6 @@ ghost use Rattle.reader.specs.Law.{Describe, ReadAs, Refused};
 ghost use Rattle.reader.specs.Outcome.{Accepted, complete, Failed, FaultyAt};
 ghost use Rattle.reader.specs.Progress.{KindAt, NoKindAt, ReadTo, Ended};
 ghost use Rattle.reader.specs.Drafts.{draft_of};
-ghost use Rattle.sheet.specs.Stored.{Informed};
 ghost use Rattle.sheet.specs.View.{sheet_of};
 ghost use Rattle.sheet.specs.Lawful.{Lawful};
 ghost use Rattle.sheet.specs.System.{System, nothing, smallest};
@@ -29,15 +28,10 @@ fn kind_at(bytes: &[u8], at: usize) -> Result<Kind, SheetFault>
 }
 
 // At the end record: whether the sheet has all it needs, and nothing follows.
-fn finish(
-    bytes: &[u8],
-    place: Place,
-    draft: &Draft,
-    records: &Vec<Record>,
-) -> Result<(), SheetFault>
-    requires read { ReadTo bytes.now place draft.now records.now.items }
+fn finish(bytes: &[u8], place: Place, draft: &Draft, records: &[Record]) -> Result<(), SheetFault>
+    requires read { ReadTo bytes.now place draft.now records.now }
     requires end { KindAt bytes.now place.byte Kind.End }
-    ensures { MatchResult result (λ _. Ended bytes.now draft.now records.now.items) (λ f. FaultyAt bytes.now records.now.items f place) }
+    ensures { MatchResult result (λ _. Ended bytes.now draft.now records.now) (λ f. FaultyAt bytes.now records.now f place) }
 {
     if !draft.is_complete() {
         return Err(SheetFault::Incomplete);
@@ -60,7 +54,9 @@ fn advance(
 {
     let kind = kind_at(bytes, place.byte).map_err(|fault| Fault::Sheet(fault, place))?;
     if kind == Kind::End {
-        finish(bytes, place, draft, records).map_err(|fault| Fault::Sheet(fault, place))?;
+        finish(bytes, place, draft, records.as_slice()).map_err(|fault| Fault::Sheet(
+            fault, place,
+        ))?;
         return Ok(None);
     }
     let start = place.byte + 1;
@@ -78,8 +74,7 @@ fn advance(
 
 impl Draft {
     fn new(heap: Global) -> Draft
-        ensures system { draft_of result ≡ nothing }
-        ensures informed { Informed result.parts }
+        ensures { draft_of result ≡ nothing }
     {
         let parts = Parts {
             bits: Vec::new(heap),
@@ -102,7 +97,6 @@ impl Draft {
     fn into_sheet(self) -> Sheet
         requires whole { complete (draft_of self) ≡ true }
         requires lawful { Lawful (draft_of self) }
-        requires informed { Informed self.parts }
         ensures { sheet_of result ≡ draft_of self }
     {
         let Draft {
@@ -110,13 +104,10 @@ impl Draft {
             invariant,
             bound,
         } = self;
-        match (invariant, bound) {
-            (Some(invariant), Some(bound)) => Sheet {
-                parts,
-                invariant,
-                bound,
-            },
-            _ => unreachable(),
+        Sheet {
+            parts,
+            invariant: invariant.unwrap(),
+            bound: bound.unwrap(),
         }
     }
 }

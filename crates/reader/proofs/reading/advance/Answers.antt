@@ -23,7 +23,7 @@ add-requires c =
     let here : KindAt c.args.bytes.now c.args.place.byte k = search rules in
     let is_b = body_taken c.args.bytes.now (c.args.place.byte + 1) c.body_length.result (body_length k) c.body_length.ensures in
     let good = good_at c.args.bytes.now c.args.place c.args.draft.now (vec_items c.args.records.now) c.requires k here _ is_b c.in_ok-record.record (search rules) in
-    record { informed = c.requires.informed; room = good.allowed.room; kept = addable c.args.bytes.now c.args.place c.args.draft.now (vec_items c.args.records.now) c.requires k here _ is_b c.in_ok-record.record good }
+    record { room = good.allowed.room; kept = addable c.args.bytes.now c.args.place c.args.draft.now (vec_items c.args.records.now) c.requires k here _ is_b c.in_ok-record.record good }
 
 pub returns : goal.returns
 returns c =
