@@ -1,5 +1,5 @@
 -- One record more, or the first fault.
-use Rattle.std.proofs.Common.{◌≡◌, ℕ, ◌+◌, ◌-◌, ◌<◌, ◌≤◌, true, false, List, [], ◌∷◌, ◌++◌, length, get_or, take, drop, Result, sym, refl, ap, ◌∙◌, subst, inl, inr, append_assoc, arith, length-append, length-drop}
+use Rattle.std.proofs.Common.{◌≡◌, ℕ, ◌+◌, ◌-◌, ◌<◌, ◌≤◌, true, false, List, [], ◌∷◌, ◌++◌, length, get_or, take, drop, Ok, Err, Result, sym, refl, ap, ◌∙◌, subst, inl, inr, append_assoc, arith, length-append, length-drop}
 use Rattle.std.proofs.lemmas.List.{drop_more, drop_all, drop-drop, take-append-drop, append-nil, length_push, length-take-le}
 use Rattle.fault.specs.declared.Place.{Place}
 use Rattle.fault.specs.declared.SheetFault.{SheetFault}
@@ -85,11 +85,17 @@ module _ (bytes : List ℕ) (p : Place) (d : Draft) (xs : List Record) (h : Read
     refused_stops e TrailingBytes v = absurd v
 
     -- what was judged, at the answer
-    pub judged : (r : Result Record SheetFault) → r ≡ judge (draft_of d) k b → Says (draft_of d) k b r
+    judged : (r : Result Record SheetFault) → r ≡ judge (draft_of d) k b → Says (draft_of d) k b r
     judged r e = subst (Says (draft_of d) k b) (sym e) (judge_says (draft_of d) k b whole_b)
 
-    pub refused : (k ≡ Kind.End → ⊥) → (f : SheetFault) → Refused (draft_of d) k b f → FaultyAt bytes xs f p
+    refused : (k ≡ Kind.End → ⊥) → (f : SheetFault) → Refused (draft_of d) k b f → FaultyAt bytes xs f p
     refused e f v = faulty f (subst (λ s. Stops s (drop p.byte bytes) f) h.system (refused_stops e f v))
+
+    pub refused_at : (k ≡ Kind.End → ⊥) → (f : SheetFault) → Err f ≡ judge (draft_of d) k b → FaultyAt bytes xs f p
+    refused_at e f is = refused e f (judged (Err f) is)
+
+    pub good_at : (x : Record) → Ok x ≡ judge (draft_of d) k b → Good (draft_of d) k b x
+    good_at x is = judged (Ok x) is
 
     pub addable : (x : Record) → Good (draft_of d) k b x → keeps (draft_of d) x ≡ true
     addable x g = obeys-keeps (draft_of d) x g.allowed.obeys
@@ -101,7 +107,7 @@ module _ (bytes : List ℕ) (p : Place) (d : Draft) (xs : List Record) (h : Read
         let f : bytes ≡ written_all xs ++ (written x ++ drop p'.byte bytes) =
         h.front ∙ ap (λ l. written_all xs ++ l) (rest_is ∙ (ap (λ l. l ++ drop (p.byte + 1 + body_length k) bytes) (sym g.is) ∙ ap (λ n. written x ++ drop n bytes) (sym at))) in
         let body : length (written x) ≡ body_length k + 1 = ap length g.is ∙ (let q = whole_b in omega arith) in
-        record { front = f ∙ (sym (append_assoc (written_all xs) (written x) (drop p'.byte bytes)) ∙ ap (λ l. l ++ drop p'.byte bytes) (sym w)); byte = omega (arith, h.byte, body, ap length w, length-append (written_all xs) (written x)); number = number ∙ (ap (λ n. n + 1) h.number ∙ (sym (length_push xs x) ∙ ap length (sym is-xs))); few = omega (arith, h.few); allowed = subst (AllAllowed nothing) (sym is-xs) (allowed_push nothing xs x h.allowed (subst (λ s. Allowed s x) h.system g.allowed)); system = added.system ∙ (ap (λ s. add s x) h.system ∙ (sym (gather-push nothing xs x) ∙ ap describe (sym is-xs))); informed = added.informed }
+        record { front = f ∙ (sym (append_assoc (written_all xs) (written x) (drop p'.byte bytes)) ∙ ap (λ l. l ++ drop p'.byte bytes) (sym w)); byte = omega (arith, h.byte, body, ap length w, length-append (written_all xs) (written x)); number = number ∙ (ap (λ n. n + 1) h.number ∙ (sym (length_push xs x) ∙ ap length (sym is-xs))); few = omega (arith, h.few); allowed = subst (AllAllowed nothing) (sym is-xs) (allowed_push nothing xs x h.allowed (subst (λ s. Allowed s x) h.system g.allowed)); system = added ∙ (ap (λ s. add s x) h.system ∙ (sym (gather-push nothing xs x) ∙ ap describe (sym is-xs))) }
 
   -- at the end record
   module _ (a : KindAt bytes p.byte Kind.End) where
@@ -117,7 +123,7 @@ module _ (bytes : List ℕ) (p : Place) (d : Draft) (xs : List Record) (h : Read
 
     pub ended : complete (draft_of d) ≡ true → length bytes ≤ p.byte + 1 → Ended bytes d xs
     ended has last =
-        record { is = h.front ∙ ap (λ l. written_all xs ++ l) (end_is ∙ ap (λ l. letter Kind.End ∷ l) (drop_all (p.byte + 1) bytes last)); allowed = h.allowed; system = h.system; informed = h.informed; whole = has }
+        record { is = h.front ∙ ap (λ l. written_all xs ++ l) (end_is ∙ ap (λ l. letter Kind.End ∷ l) (drop_all (p.byte + 1) bytes last)); allowed = h.allowed; system = h.system; whole = has }
 
 -- the body as the reader cuts it out
 pub body_taken : (bytes : List ℕ) (i m n : ℕ) → m ≡ n → take (i + m - i) (drop i bytes) ≡ take n (drop i bytes)

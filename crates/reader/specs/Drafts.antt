@@ -3,12 +3,11 @@ use Rattle.std.specs.Prelude.{◌≡◌}
 use Rattle.reader.specs.declared.draft.Draft.{Draft}
 use Rattle.sheet.specs.declared.syntax.Record.{Record}
 use Rattle.sheet.specs.System.{System, add}
-use Rattle.sheet.specs.Stored.{system_of, Informed}
+use Rattle.sheet.specs.Stored.{system_of}
 
 abbrev pub draft_of : Draft → System
 draft_of d = system_of d.parts d.invariant d.bound
 
 -- e is d with what the record adds
-pub record Added (d : Draft) (x : Record) (e : Draft) : Type 0 where
-  pub system : draft_of e ≡ add (draft_of d) x
-  pub informed : Informed e.parts
+abbrev pub Added : Draft → Record → Draft → Type 0
+Added d x e = draft_of e ≡ add (draft_of d) x

@@ -10,7 +10,6 @@ use Rattle.sheet.specs.Format.{letter, body_length, written_all}
 use Rattle.reader.specs.Outcome.{AllAllowed, complete}
 use Rattle.sheet.specs.System.{nothing, describe}
 use Rattle.reader.specs.Drafts.{draft_of}
-use Rattle.sheet.specs.Stored.{Informed}
 
 -- a record of this kind stands at the place, and is whole
 pub record KindAt (bytes : List ℕ) (at : ℕ) (k : Kind) : Type 0 where
@@ -45,12 +44,10 @@ pub record ReadTo (bytes : List ℕ) (p : Place) (d : Draft) (xs : List Record) 
   pub few : p.record ≤ p.byte
   pub allowed : AllAllowed nothing xs
   pub system : draft_of d ≡ describe xs
-  pub informed : Informed d.parts
 
 -- the end record is read, and is the last
 pub record Ended (bytes : List ℕ) (d : Draft) (xs : List Record) : Type 0 where
   pub is : bytes ≡ written_all xs ++ letter Kind.End ∷ []
   pub allowed : AllAllowed nothing xs
   pub system : draft_of d ≡ describe xs
-  pub informed : Informed d.parts
   pub whole : complete (draft_of d) ≡ true

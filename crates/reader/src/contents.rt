@@ -3,7 +3,6 @@ ghost use Rattle.std.specs.Prelude.{◌≡◌, ◌+◌, true, not, ◌&&◌, ltb
 ghost use Rattle.sheet.specs.Stored.{term_info_in, formula_info_in};
 ghost use Rattle.sheet.specs.Rules.{arg_count, args_info, both, formula_info, term_info, keeps, contains_input, contains_question, contains_claim};
 ghost use Rattle.reader.specs.Drafts.{draft_of};
-ghost use Rattle.sheet.specs.Stored.{Informed};
 
 use crate::draft::Draft;
 use sheet::{Args, Choice, Equation, Formula, FormulaInfo, Record, Start, Term, TermInfo};
@@ -48,10 +47,7 @@ impl Draft {
         ensures { result ≡ (if ltb (args_info (map term_info_in self.now.parts.terms.items) args).height 5 then Some (args_info (map term_info_in self.now.parts.terms.items) args) else None) }
     {
         match args {
-            Args::Zero => Some(TermInfo {
-                height: 0,
-                has_input: false,
-            }),
+            Args::Zero => Some(TermInfo::BLANK),
             Args::One(a) => {
                 let x = self.term_info(a);
                 one_higher(x.height, x.has_input)
@@ -74,23 +70,16 @@ impl Draft {
     }
 
     pub(crate) fn info_of_term(&self, term: Term) -> TermInfo
-        requires term_value { keeps (draft_of self.now) (Record.Term term) ≡ true }
-        requires informed { Informed self.now.parts }
+        requires { keeps (draft_of self.now) (Record.Term term) ≡ true }
         ensures { result ≡ term_info (map term_info_in self.now.parts.terms.items) term }
     {
         match term {
-            Term::Reading(_) => TermInfo {
-                height: 0,
-                has_input: false,
-            },
+            Term::Reading(_) => TermInfo::BLANK,
             Term::Input(_) => TermInfo {
                 height: 0,
                 has_input: true,
             },
-            Term::Apply(_, args) => match self.args_info(args) {
-                Some(info) => info,
-                None => unreachable(),
-            },
+            Term::Apply(_, args) => self.args_info(args).unwrap(),
         }
     }
 
@@ -98,10 +87,7 @@ impl Draft {
         ensures { result ≡ formula_info (map formula_info_in self.now.parts.formulas.items) formula }
     {
         match formula {
-            Formula::True | Formula::Bit(_) => FormulaInfo {
-                has_question: false,
-                has_claim: false,
-            },
+            Formula::True | Formula::Bit(_) => FormulaInfo::BLANK,
             Formula::Question(_) => FormulaInfo {
                 has_question: true,
                 has_claim: false,
@@ -117,28 +103,24 @@ impl Draft {
     }
 
     fn has_claim(&self, formula: u8) -> bool
-        requires { Informed self.now.parts }
         ensures { result ≡ contains_claim (draft_of self.now) formula }
     {
         self.formula_info(formula).has_claim
     }
 
     fn has_question(&self, formula: u8) -> bool
-        requires { Informed self.now.parts }
         ensures { result ≡ contains_question (draft_of self.now) formula }
     {
         self.formula_info(formula).has_question
     }
 
     fn has_input(&self, term: u8) -> bool
-        requires { Informed self.now.parts }
         ensures { result ≡ contains_input (draft_of self.now) term }
     {
         self.term_info(term).has_input
     }
 
     fn symbol_fits(&self, symbol: u8, args: Args) -> bool
-        requires { Informed self.now.parts }
         ensures { result ≡ keeps (draft_of self.now) (Record.Term (Term.Apply symbol args)) }
     {
         let fits = self.arity(symbol) == arg_count(args);
@@ -147,11 +129,10 @@ impl Draft {
     }
 
     // Whether the record, which names only things that are there, keeps the rest of the rules.
-    pub(crate) fn keeps(&self, record: Record) -> bool
-        requires { Informed self.now.parts }
-        ensures { result ≡ keeps (draft_of self.now) «record» }
+    pub(crate) fn keeps(&self, what: Record) -> bool
+        ensures { result ≡ keeps (draft_of self.now) what }
     {
-        match record {
+        match what {
             Record::Symbol(arity) => arity < 4,
             Record::Reading(Start::Name(number)) => number < 8,
             Record::Reading(Start::Constant(symbol)) => self.arity(symbol) == 0,

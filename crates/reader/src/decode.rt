@@ -43,10 +43,7 @@ pub(crate) fn decode_term(way: u8, number: u8, a: u8, b: u8, c: u8, arity: u8) -
     match way {
         0 if unused => Some(Term::Reading(number)),
         1 if unused => Some(Term::Input(number)),
-        2 => match decode_args(arity, a, b, c) {
-            Some(args) => Some(Term::Apply(number, args)),
-            None => None,
-        },
+        2 => decode_args(arity, a, b, c).map(|args| Term::Apply(number, args)),
         _ => None,
     }
 }

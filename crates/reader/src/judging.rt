@@ -7,7 +7,6 @@ ghost use Rattle.reader.specs.Outcome.{complete};
 ghost use Rattle.sheet.specs.Rules.{no_info, plain, room, names, keeps, count, fresh, args_below, args_info};
 ghost use Rattle.sheet.specs.System.{no_bit, no_reading};
 ghost use Rattle.reader.specs.Drafts.{draft_of};
-ghost use Rattle.sheet.specs.Stored.{Informed};
 
 use crate::decode;
 use crate::draft::Draft;
@@ -28,40 +27,25 @@ impl Draft {
     pub(crate) fn arity(&self, symbol: u8) -> u8
         ensures { result ≡ slice_index self.now.parts.symbols.items symbol }
     {
-        let n = symbol as usize;
-        if n < self.parts.symbols.len() {
-            self.parts.symbols[n]
-        } else {
-            0
-        }
+        self.parts
+            .symbols
+            .get(symbol as usize)
+            .copied()
+            .unwrap_or(0)
     }
 
     pub(crate) fn term_info(&self, term: u8) -> TermInfo
         ensures { result ≡ slice_index_or (map term_info_in self.now.parts.terms.items) term no_info }
     {
-        let n = term as usize;
-        if n < self.parts.terms.len() {
-            self.parts.terms[n].info
-        } else {
-            TermInfo {
-                height: 0,
-                has_input: false,
-            }
-        }
+        let entry = self.parts.terms.get(term as usize);
+        entry.map(|entry| entry.info).unwrap_or(TermInfo::BLANK)
     }
 
     pub(crate) fn formula_info(&self, formula: u8) -> FormulaInfo
         ensures { result ≡ slice_index_or (map formula_info_in self.now.parts.formulas.items) formula plain }
     {
-        let n = formula as usize;
-        if n < self.parts.formulas.len() {
-            self.parts.formulas[n].info
-        } else {
-            FormulaInfo {
-                has_question: false,
-                has_claim: false,
-            }
-        }
+        let entry = self.parts.formulas.get(formula as usize);
+        entry.map(|entry| entry.info).unwrap_or(FormulaInfo::BLANK)
     }
 
     fn decode(&self, kind: Kind, body: &[u8]) -> Option<Record>
@@ -142,10 +126,10 @@ impl Draft {
     }
 
     // Whether the record names only things that are there.
-    fn names(&self, record: Record) -> bool
-        ensures { result ≡ names (draft_of self.now) (count (draft_of self.now) (kind_of «record»)) «record» }
+    fn names(&self, what: Record) -> bool
+        ensures { result ≡ names (draft_of self.now) (count (draft_of self.now) (kind_of what)) what }
     {
-        match record {
+        match what {
             Record::Bit(_) | Record::Symbol(_) | Record::Input | Record::Bound(_) => true,
             Record::Reading(Start::Name(_)) => true,
             Record::Reading(Start::Constant(symbol)) => self.has(Kind::Symbol, symbol),
@@ -182,10 +166,10 @@ impl Draft {
     }
 
     // Whether the record gives nothing that an earlier one gave.
-    fn is_fresh(&self, record: Record) -> bool
-        ensures { result ≡ fresh (draft_of self.now) «record» }
+    fn is_fresh(&self, what: Record) -> bool
+        ensures { result ≡ fresh (draft_of self.now) what }
     {
-        match record {
+        match what {
             Record::NextBit(bit, _) => self.bit_next(bit).is_none(),
             Record::NextReading(reading, _) => self.reading_next(reading).is_none(),
             Record::Invariant(_) => self.invariant.is_none(),
@@ -197,23 +181,16 @@ impl Draft {
     fn bit_next(&self, bit: u8) -> Option<u8>
         ensures { result ≡ (get_or self.now.parts.bits.items bit no_bit).next }
     {
-        let n = bit as usize;
-        if n < self.parts.bits.len() {
-            self.parts.bits[n].next
-        } else {
-            None
-        }
+        self.parts.bits.get(bit as usize).and_then(|bit| bit.next)
     }
 
     fn reading_next(&self, reading: u8) -> Option<u8>
         ensures { result ≡ (get_or self.now.parts.readings.items reading no_reading).next }
     {
-        let n = reading as usize;
-        if n < self.parts.readings.len() {
-            self.parts.readings[n].next
-        } else {
-            None
-        }
+        self.parts
+            .readings
+            .get(reading as usize)
+            .and_then(|reading| reading.next)
     }
 
     // Whether the invariant and the height bound are given.
@@ -225,8 +202,7 @@ impl Draft {
 
     // The record that the body writes, or the first rule against it.
     pub(crate) fn judge(&self, kind: Kind, body: &[u8]) -> Result<Record, SheetFault>
-        requires informed { Informed self.now.parts }
-        requires whole { length body.now ≡ body_length kind }
+        requires { length body.now ≡ body_length kind }
         ensures { result ≡ judge (draft_of self.now) kind body.now }
     {
         if !self.has_room(kind) {

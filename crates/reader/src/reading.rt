@@ -6,7 +6,6 @@ ghost use Rattle.reader.specs.Law.{Describe, ReadAs, Refused};
 ghost use Rattle.reader.specs.Outcome.{Accepted, complete, Failed, FaultyAt};
 ghost use Rattle.reader.specs.Progress.{KindAt, NoKindAt, ReadTo, Ended};
 ghost use Rattle.reader.specs.Drafts.{draft_of};
-ghost use Rattle.sheet.specs.Stored.{Informed};
 ghost use Rattle.sheet.specs.View.{sheet_of};
 ghost use Rattle.sheet.specs.Lawful.{Lawful};
 ghost use Rattle.sheet.specs.System.{System, nothing, smallest};
@@ -20,12 +19,8 @@ use std::alloc::{AllocError, Global};
 fn kind_at(bytes: &[u8], at: usize) -> Result<Kind, SheetFault>
     ensures { MatchResult result (λ k. KindAt bytes.now at k) (λ f. NoKindAt bytes.now at f) }
 {
-    if at >= bytes.len() {
-        return Err(SheetFault::Truncated);
-    }
-    let Some(kind) = Kind::of_letter(bytes[at]) else {
-        return Err(SheetFault::UnknownLetter);
-    };
+    let letter = *bytes.get(at).ok_or(SheetFault::Truncated)?;
+    let kind = Kind::of_letter(letter).ok_or(SheetFault::UnknownLetter)?;
     if bytes.len() - at - 1 < kind.body_length() {
         return Err(SheetFault::Truncated);
     }
@@ -33,15 +28,10 @@ fn kind_at(bytes: &[u8], at: usize) -> Result<Kind, SheetFault>
 }
 
 // At the end record: whether the sheet has all it needs, and nothing follows.
-fn finish(
-    bytes: &[u8],
-    place: Place,
-    draft: &Draft,
-    records: &Vec<Record>,
-) -> Result<(), SheetFault>
-    requires read { ReadTo bytes.now place draft.now records.now.items }
+fn finish(bytes: &[u8], place: Place, draft: &Draft, records: &[Record]) -> Result<(), SheetFault>
+    requires read { ReadTo bytes.now place draft.now records.now }
     requires end { KindAt bytes.now place.byte Kind.End }
-    ensures { MatchResult result (λ _. Ended bytes.now draft.now records.now.items) (λ f. FaultyAt bytes.now records.now.items f place) }
+    ensures { MatchResult result (λ _. Ended bytes.now draft.now records.now) (λ f. FaultyAt bytes.now records.now f place) }
 {
     if !draft.is_complete() {
         return Err(SheetFault::Incomplete);
@@ -62,22 +52,18 @@ fn advance(
     requires { ReadTo bytes.now place draft.old records.old.items }
     ensures { MatchResult result (λ o. MatchOption o (Ended bytes.now draft.new records.new.items) (λ p. ReadTo bytes.now p draft.new records.new.items × (place.byte < p.byte) × (p.byte ≤ length bytes.now))) (λ e. Failed bytes.now records.new.items e) }
 {
-    let kind = match kind_at(bytes, place.byte) {
-        Ok(kind) => kind,
-        Err(fault) => return Err(Failure::Fault(Fault::Sheet(fault, place))),
-    };
-    if let Kind::End = kind {
-        return match finish(bytes, place, draft, records) {
-            Ok(()) => Ok(None),
-            Err(fault) => Err(Failure::Fault(Fault::Sheet(fault, place))),
-        };
+    let kind = kind_at(bytes, place.byte).map_err(|fault| Fault::Sheet(fault, place))?;
+    if kind == Kind::End {
+        finish(bytes, place, draft, records.as_slice()).map_err(|fault| Fault::Sheet(
+            fault, place,
+        ))?;
+        return Ok(None);
     }
     let start = place.byte + 1;
     let end = start + kind.body_length();
-    let record = match draft.judge(kind, &bytes[start..end]) {
-        Ok(record) => record,
-        Err(fault) => return Err(Failure::Fault(Fault::Sheet(fault, place))),
-    };
+    let record = draft
+        .judge(kind, &bytes[start..end])
+        .map_err(|fault| Fault::Sheet(fault, place))?;
     draft.add(record)?;
     records.push(record)?;
     Ok(Some(Place {
@@ -88,8 +74,7 @@ fn advance(
 
 impl Draft {
     fn new(heap: Global) -> Draft
-        ensures system { draft_of result ≡ nothing }
-        ensures informed { Informed result.parts }
+        ensures { draft_of result ≡ nothing }
     {
         let parts = Parts {
             bits: Vec::new(heap),
@@ -112,7 +97,6 @@ impl Draft {
     fn into_sheet(self) -> Sheet
         requires whole { complete (draft_of self) ≡ true }
         requires lawful { Lawful (draft_of self) }
-        requires informed { Informed self.parts }
         ensures { sheet_of result ≡ draft_of self }
     {
         let Draft {
@@ -120,13 +104,10 @@ impl Draft {
             invariant,
             bound,
         } = self;
-        match (invariant, bound) {
-            (Some(invariant), Some(bound)) => Sheet {
-                parts,
-                invariant,
-                bound,
-            },
-            _ => unreachable(),
+        Sheet {
+            parts,
+            invariant: invariant.unwrap(),
+            bound: bound.unwrap(),
         }
     }
 }
@@ -144,12 +125,6 @@ pub fn read_records(bytes: &[u8], heap: Global, records: &mut Vec<Record>) -> Re
     Ok(draft.into_sheet())
 }
 
-fn store(place: &mut Sheet, sheet: Sheet)
-    ensures { place.new ≡ sheet }
-{
-    *place = sheet;
-}
-
 /// Reads a sheet into the caller's place, which keeps its earlier sheet unless the bytes are a whole one.
 /// The first clause says which records were read and which fault was met first, and the second what that
 /// is for: a sheet is read exactly when the bytes describe it.
@@ -159,13 +134,8 @@ pub fn read(bytes: &[u8], heap: Global, place: &mut Sheet) -> Result<(), Failure
     ensures back { (s : System) → Lawful s → complete s ≡ true → Describe (written_out s) s }
 {
     let mut records = Vec::new(heap);
-    match read_records(bytes, heap, &mut records) {
-        Ok(sheet) => {
-            store(place, sheet);
-            Ok(())
-        }
-        Err(failure) => Err(failure),
-    }
+    *place = read_records(bytes, heap, &mut records)?;
+    Ok(())
 }
 
 /// The sheet that a place holds at first: the invariant is true, and the height bound is 0.

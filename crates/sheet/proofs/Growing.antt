@@ -1,5 +1,5 @@
 -- A list that is built front to back.
-use Rattle.std.proofs.Common.{◌≡◌, ℕ, zero, suc, ◌+◌, ◌<◌, List, [], ◌∷◌, ◌++◌, map, length, get_or, take, sym, refl, ap, ◌∙◌, add-zero, zero-add, arith}
+use Rattle.std.proofs.Common.{◌≡◌, ℕ, zero, suc, ◌+◌, ◌<◌, Bool, true, false, cond, List, [], ◌∷◌, ◌++◌, map, length, get_or, take, sym, refl, ap, ◌∙◌, add-zero, zero-add, arith}
 use Rattle.sheet.specs.Grow.{grow}
 use Rattle.std.proofs.lemmas.List.{map_push, length_push, get_or_append_left, same_lists, length-take-le, get_or-take, take-take, take_at, get_or_at}
 
@@ -14,6 +14,11 @@ informed_push node info step es es' e known new is =
     let b : map node es' ≡ map node es ++ node e ∷ [] = ap (map node) is ∙ map_push node es e in
     let c : grow step [] (map node es') ≡ grow step [] (map node es) ++ step (grow step [] (map node es)) (node e) ∷ [] = ap (grow step []) b ∙ grow-push step [] (map node es) (node e) in
     cc
+
+-- the same where the one more may be refused
+pub informed_tried : {E N V : Type 0} (node : E → N) (info : E → V) (step : List V → N → V) (added : Bool) (es es' : List E) (e : E) → map info es ≡ grow step [] (map node es) → info e ≡ step (map info es) (node e) → es' ≡ cond added (es ++ e ∷ []) es → map info es' ≡ grow step [] (map node es')
+informed_tried node info step true es es' e known new is = informed_push node info step es es' e known new is
+informed_tried node info step false es es' e known new is = rw is known
 
 pub nodes_push : {E N : Type 0} (node : E → N) (es es' : List E) (e : E) → es' ≡ es ++ e ∷ [] → map node es' ≡ map node es ++ node e ∷ []
 nodes_push node es es' e is = ap (map node) is ∙ map_push node es e

@@ -1,6 +1,9 @@
+pub mod Arrays
 pub mod Eaches
 pub mod Extending
+pub mod Fewness
 pub mod Growing
 pub mod Lawfulness
 pub mod Memos
+pub mod Numbering
 pub mod Stored

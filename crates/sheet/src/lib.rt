@@ -2,6 +2,7 @@
 //! The rules for a sheet and its meaning are in `specs/`.
 #![tactic(auto)]
 
+mod bits;
 pub mod kind;
 mod letters;
 mod memo;

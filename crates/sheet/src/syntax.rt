@@ -88,11 +88,27 @@ pub struct TermInfo {
     pub has_input: bool,
 }
 
+impl TermInfo {
+    /// Of a term with nothing below it.
+    pub const BLANK: TermInfo = TermInfo {
+        height: 0,
+        has_input: false,
+    };
+}
+
 /// Whether a question, and whether a claim, stands in a formula.
 #[derive(Clone, Copy, Debug, PartialEq, Eq)]
 pub struct FormulaInfo {
     pub has_question: bool,
     pub has_claim: bool,
+}
+
+impl FormulaInfo {
+    /// Of a formula with neither.
+    pub const BLANK: FormulaInfo = FormulaInfo {
+        has_question: false,
+        has_claim: false,
+    };
 }
 
 /// A term with what the rules ask of it.
