@@ -8,23 +8,13 @@ use super::Unread;
 use super::reading::condition;
 use closure::decide;
 use std::alloc::Global;
-use terms::{Condition, Count, Node, TermRecord};
+use terms::{Condition, Count, TermRecord};
 
 /// Where a text could not be read on, its lines counted from 1, and why.
-#[derive(Clone, Copy)]
+#[derive(Clone, Copy, Debug, PartialEq, Eq)]
 pub struct Stopped {
     pub line: usize,
     pub why: Unread,
-}
-
-/// One condition more; false where memory is refused.
-fn keep(conditions: &mut Vec<Condition>, condition: Condition) -> bool
-    ensures { result ≡ true → conditions.new.items ≡ conditions.old.items ++ (condition ∷ []) }
-{
-    match conditions.push(condition) {
-        Ok(()) => true,
-        Err(_) => false,
-    }
 }
 
 /// Reads a text of conditions, one to a line, into a bank.
@@ -41,17 +31,15 @@ fn read(
     let mut conditions = Vec::new(heap);
     let mut rest = text;
     let mut line = 1usize;
-    while rest.len() > 0 {
-        let (read, more) = match condition(rest, bank, count, arities) {
-            Ok(next) => next,
-            Err(why) => return Err(Stopped { line, why }),
-        };
-        if !keep(&mut conditions, read) {
-            return Err(Stopped {
-                line,
-                why: Unread::Memory,
-            });
-        }
+    while !rest.is_empty() {
+        let (read, more) = condition(rest, bank, count, arities).map_err(|why| Stopped {
+            line,
+            why,
+        })?;
+        conditions.push(read).map_err(|_| Stopped {
+            line,
+            why: Unread::Memory,
+        })?;
         rest = more;
         line = line.saturating_add(1);
     }
@@ -59,7 +47,7 @@ fn read(
 }
 
 /// What is found of a text of conditions.
-#[derive(Clone, Copy)]
+#[derive(Clone, Copy, Debug, PartialEq, Eq)]
 pub enum Answer {
     /// No interpretation meets the conditions.
     Impossible { joins: u16 },
@@ -75,11 +63,7 @@ pub enum Answer {
 pub fn decide_text(heap: Global, text: &[u8]) -> Answer
     ensures { Answers text.now result }
 {
-    let mut bank = [TermRecord {
-        node: Node::Name(0),
-        height: 0,
-        names: 0,
-    }; 512];
+    let mut bank = [TermRecord::BLANK; 512];
     let mut labels = [0u16; 512];
     let mut arities = [None; 256];
     decide_in(heap, text, &mut bank, &mut labels, &mut arities)
@@ -98,10 +82,13 @@ fn decide_in(
     let mut count = Count { terms: 0 };
     match read(heap, text, bank, &mut count, arities) {
         Ok(conditions) => verdict(bank, count, &conditions, labels),
-        Err(stopped) => match stopped.why {
-            Unread::TooManyTerms => Answer::Full,
-            _ => Answer::Unreadable(stopped),
-        },
+        Err(
+            Stopped {
+                why: Unread::TooManyTerms,
+                ..
+            },
+        ) => Answer::Full,
+        Err(stopped) => Answer::Unreadable(stopped),
     }
 }
 
