@@ -1,14 +1,13 @@
 //! Whole texts: every line a condition, and the answer on them.
-ghost use Rattle.std.specs.Prelude.{◌≡◌, ℕ, ◌<◌, true, [], ◌∷◌, ◌++◌, length, IfOk};
-ghost use Rattle.terms.specs.Bank.{Bank};
+ghost use Rattle.std.specs.Prelude.{◌≡◌, IfOk};
 ghost use Rattle.closure.specs.Labels.{literals};
 ghost use Rattle.notation.specs.Written.{document, Between, Answers};
 
 use super::Unread;
-use super::reading::condition;
+use super::reading::Reader;
 use closure::decide;
 use std::alloc::Global;
-use terms::{Condition, Count, TermRecord};
+use terms::{Condition, MOST_TERMS};
 
 /// Where a text could not be read on, its lines counted from 1, and why.
 #[derive(Clone, Copy, Debug, PartialEq, Eq)]
@@ -17,25 +16,15 @@ pub struct Stopped {
     pub why: Unread,
 }
 
-/// Reads a text of conditions, one to a line, into a bank.
-fn read(
-    heap: Global,
-    text: &[u8],
-    bank: &mut [TermRecord],
-    count: &mut Count,
-    arities: &mut [Option<u8>],
-) -> Result<Vec<Condition>, Stopped>
-    requires bank { Bank bank.old count.old.terms }
-    ensures { IfOk result (λ v. Bank bank.new count.new.terms × Between v.items count.new.terms × (text.now ≡ document (literals bank.new v.items))) }
+/// Reads a text of conditions, one to a line.
+fn read(heap: Global, text: &[u8], reader: &mut Reader) -> Result<Vec<Condition>, Stopped>
+    ensures { IfOk result (λ v. Between v.items reader.new.count.terms × (text.now ≡ document (literals reader.new.bank v.items))) }
 {
     let mut conditions = Vec::new(heap);
     let mut rest = text;
     let mut line = 1usize;
     while !rest.is_empty() {
-        let (read, more) = condition(rest, bank, count, arities).map_err(|why| Stopped {
-            line,
-            why,
-        })?;
+        let (read, more) = reader.condition(rest).map_err(|why| Stopped { line, why })?;
         conditions.push(read).map_err(|_| Stopped {
             line,
             why: Unread::Memory,
@@ -63,25 +52,9 @@ pub enum Answer {
 pub fn decide_text(heap: Global, text: &[u8]) -> Answer
     ensures { Answers text.now result }
 {
-    let mut bank = [TermRecord::BLANK; 512];
-    let mut labels = [0u16; 512];
-    let mut arities = [None; 256];
-    decide_in(heap, text, &mut bank, &mut labels, &mut arities)
-}
-
-fn decide_in(
-    heap: Global,
-    text: &[u8],
-    bank: &mut [TermRecord],
-    labels: &mut [u16],
-    arities: &mut [Option<u8>],
-) -> Answer
-    requires { length labels.old ≡ 512 }
-    ensures { Answers text.now result }
-{
-    let mut count = Count { terms: 0 };
-    match read(heap, text, bank, &mut count, arities) {
-        Ok(conditions) => verdict(bank, count, &conditions, labels),
+    let mut reader = Reader::new();
+    match read(heap, text, &mut reader) {
+        Ok(conditions) => verdict(&reader, &conditions),
         Err(
             Stopped {
                 why: Unread::TooManyTerms,
@@ -92,18 +65,12 @@ fn decide_in(
     }
 }
 
-fn verdict(
-    bank: &[TermRecord],
-    count: Count,
-    conditions: &[Condition],
-    labels: &mut [u16],
-) -> Answer
-    requires bank { Bank bank.now count.terms }
-    requires between { Between conditions.now count.terms }
-    requires labels { length labels.old ≡ 512 }
-    ensures { Answers (document (literals bank.now conditions.now)) result }
+fn verdict(reader: &Reader, conditions: &[Condition]) -> Answer
+    requires { Between conditions.now reader.now.count.terms }
+    ensures { Answers (document (literals reader.now.bank conditions.now)) result }
 {
-    match decide(bank, count, conditions, labels) {
+    let mut labels = [0; MOST_TERMS];
+    match decide(&reader.bank, reader.count, conditions, &mut labels) {
         Ok(found) => {
             if found.impossible {
                 Answer::Impossible { joins: found.joins }
