@@ -2,7 +2,6 @@
 use Rattle.std.proofs.Common.{◌≡◌, ℕ, ◌+◌, ◌<◌, List, [], length, get_or, set, Some, None, Option, sym, refl, ap, ◌∙◌, subst, ⊎_elim, arith}
 use Rattle.std.proofs.lemmas.List.{get_or-set_same, set-get_or}
 use Rattle.std.proofs.lemmas.Bool.{cases_lt}
-use Rattle.terms.specs.declared.Node.{Node}
 use Rattle.terms.specs.declared.TermRecord.{TermRecord}
 use Rattle.terms.specs.Terms.{height, name_set}
 use Rattle.terms.specs.Bank.{Bank, Lacks, Measured, node_at, no_record, record_of, term_of, term_at}
@@ -49,8 +48,3 @@ listed_more rs heads next i b chains i_in b_in is listed j lt =
     subst (λ k. Reaches (set next i (get_or heads b None)) (get_or (set heads b (Some i)) (bucket_of (node_at rs k)) None) k) (sym z)
     (subst (λ p. Reaches (set next i (get_or heads b None)) p i) (sym (ap (λ u. get_or (set heads b (Some i)) u None) (sym is) ∙ get_or-set_same heads b (Some i) None b_in)) (here i)))
     (cases_lt j i)
-
--- a node that its bucket's chain lacks is new
-pub lacks_listed : (rs : List TermRecord) (heads next : List (Option ℕ)) (i b : ℕ) (node : Node) → Listed rs heads next i → b ≡ bucket_of node → ((j : ℕ) → Reaches next (get_or heads b None) j → node_at rs j ≡ node → ⊥) → Lacks rs i node
-lacks_listed rs heads next i b node listed is none j lt e =
-    none j (subst (λ u. Reaches next (get_or heads u None) j) (ap bucket_of e ∙ sym is) (listed j lt)) e

@@ -6,6 +6,7 @@
 ghost use Rattle.banks.specs.Room.{Held};
 ghost use Rattle.banks.specs.Gains.{Gained};
 
+mod nodes;
 mod testing;
 
 pub use testing::is_bank;

@@ -1,5 +1,5 @@
 -- A document with one line more, in a bank with more terms.
-use Rattle.std.proofs.Common.{◌≡◌, ℕ, zero, suc, ◌<◌, ◌≤◌, List, [], ◌∷◌, ◌++◌, length, sym, refl, ap, ◌∙◌, arith, length-append}
+use Rattle.std.proofs.Common.{◌≡◌, ℕ, zero, suc, ◌<◌, ◌≤◌, List, [], ◌∷◌, ◌++◌, sym, refl, ap, ◌∙◌, arith}
 use Rattle.std.proofs.lemmas.List.{append_assoc, map_push, flat_map_more}
 use Rattle.terms.specs.declared.TermRecord.{TermRecord}
 use Rattle.terms.specs.declared.Condition.{Condition}
@@ -39,6 +39,3 @@ document_more rs rs' n n' conds c text rest more e between is then =
     ∙ (ap (λ u. document (literals rs' conds) ++ u) then
     ∙ (sym (append_assoc (document (literals rs' conds)) (line (literal_of rs' c)) more)
     ∙ ap (λ u. u ++ more) (one ∙ ap document (sym push)))))
-
-pub line_some : (c : Literal) → 0 < length (line c)
-line_some c = rw (length-append, length-append, length-append) (omega arith)

@@ -1,7 +1,5 @@
 -- The decimal form of numbers of one, two and three digits.
-use Rattle.std.proofs.Common.{◌≡◌, ℕ, ◌+◌, ◌*◌, ◌/◌, ◌%◌, ◌<◌, List, [], ◌∷◌, ◌++◌, length, get_or, decimal, refl, ap, ◌∙◌, arith}
-use Rattle.std.specs.List.{between}
-use Rattle.std.proofs.lemmas.Slice.{first_rest}
+use Rattle.std.proofs.Common.{◌≡◌, ℕ, ◌+◌, ◌*◌, ◌/◌, ◌%◌, ◌<◌, List, [], ◌∷◌, ◌++◌, decimal, refl, ◌∙◌, arith}
 use Rattle.std.proofs.lemmas.Fmt.{decimal_digit, decimal_step}
 
 pub one_digit : (a : ℕ) (t r : List ℕ) → a < 10 → t ≡ (48 + a) ∷ r → t ≡ decimal a ++ r
@@ -22,7 +20,3 @@ three_digits a b c t r s u some p q w e f g =
     let up : ((a * 10 + b) * 10 + c) / 10 ≡ a * 10 + b = omega arith in
     let low : ((a * 10 + b) * 10 + c) % 10 ≡ c = omega arith in
     e ∙ rw (decimal_step ((a * 10 + b) * 10 + c) (omega arith) (omega arith), up, low, two a b some p q, f, g) refl
-
--- a text by its first byte
-pub front : (xs : List ℕ) (b : ℕ) → 0 < length xs → get_or xs 0 0 ≡ b → xs ≡ b ∷ between 1 (length xs) xs
-front xs b some is = first_rest xs 0 some ∙ ap (λ u. u ∷ between 1 (length xs) xs) is

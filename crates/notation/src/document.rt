@@ -1,57 +1,34 @@
 //! Whole texts: every line a condition, and the answer on them.
-ghost use Rattle.std.specs.Prelude.{◌≡◌, ℕ, ◌<◌, true, [], ◌∷◌, ◌++◌, length, IfOk};
-ghost use Rattle.terms.specs.Bank.{Bank};
+ghost use Rattle.std.specs.Prelude.{◌≡◌, IfOk};
 ghost use Rattle.closure.specs.Labels.{literals};
 ghost use Rattle.notation.specs.Written.{document, Between, Answers};
 
 use super::Unread;
-use super::reading::condition;
+use super::reading::Reader;
 use closure::decide;
 use std::alloc::Global;
-use terms::{Condition, Count, Node, TermRecord};
+use terms::{Condition, MOST_TERMS};
 
 /// Where a text could not be read on, its lines counted from 1, and why.
-#[derive(Clone, Copy)]
+#[derive(Clone, Copy, Debug, PartialEq, Eq)]
 pub struct Stopped {
     pub line: usize,
     pub why: Unread,
 }
 
-/// One condition more; false where memory is refused.
-fn keep(conditions: &mut Vec<Condition>, condition: Condition) -> bool
-    ensures { result ≡ true → conditions.new.items ≡ conditions.old.items ++ (condition ∷ []) }
-{
-    match conditions.push(condition) {
-        Ok(()) => true,
-        Err(_) => false,
-    }
-}
-
-/// Reads a text of conditions, one to a line, into a bank.
-fn read(
-    heap: Global,
-    text: &[u8],
-    bank: &mut [TermRecord],
-    count: &mut Count,
-    arities: &mut [Option<u8>],
-) -> Result<Vec<Condition>, Stopped>
-    requires bank { Bank bank.old count.old.terms }
-    ensures { IfOk result (λ v. Bank bank.new count.new.terms × Between v.items count.new.terms × (text.now ≡ document (literals bank.new v.items))) }
+/// Reads a text of conditions, one to a line.
+fn read(heap: Global, text: &[u8], reader: &mut Reader) -> Result<Vec<Condition>, Stopped>
+    ensures { IfOk result (λ v. Between v.items reader.new.count.terms × (text.now ≡ document (literals reader.new.bank v.items))) }
 {
     let mut conditions = Vec::new(heap);
     let mut rest = text;
     let mut line = 1usize;
-    while rest.len() > 0 {
-        let (read, more) = match condition(rest, bank, count, arities) {
-            Ok(next) => next,
-            Err(why) => return Err(Stopped { line, why }),
-        };
-        if !keep(&mut conditions, read) {
-            return Err(Stopped {
-                line,
-                why: Unread::Memory,
-            });
-        }
+    while !rest.is_empty() {
+        let (read, more) = reader.condition(rest).map_err(|why| Stopped { line, why })?;
+        conditions.push(read).map_err(|_| Stopped {
+            line,
+            why: Unread::Memory,
+        })?;
         rest = more;
         line = line.saturating_add(1);
     }
@@ -59,7 +36,7 @@ fn read(
 }
 
 /// What is found of a text of conditions.
-#[derive(Clone, Copy)]
+#[derive(Clone, Copy, Debug, PartialEq, Eq)]
 pub enum Answer {
     /// No interpretation meets the conditions.
     Impossible { joins: u16 },
@@ -75,48 +52,25 @@ pub enum Answer {
 pub fn decide_text(heap: Global, text: &[u8]) -> Answer
     ensures { Answers text.now result }
 {
-    let mut bank = [TermRecord {
-        node: Node::Name(0),
-        height: 0,
-        names: 0,
-    }; 512];
-    let mut labels = [0u16; 512];
-    let mut arities = [None; 256];
-    decide_in(heap, text, &mut bank, &mut labels, &mut arities)
-}
-
-fn decide_in(
-    heap: Global,
-    text: &[u8],
-    bank: &mut [TermRecord],
-    labels: &mut [u16],
-    arities: &mut [Option<u8>],
-) -> Answer
-    requires { length labels.old ≡ 512 }
-    ensures { Answers text.now result }
-{
-    let mut count = Count { terms: 0 };
-    match read(heap, text, bank, &mut count, arities) {
-        Ok(conditions) => verdict(bank, count, &conditions, labels),
-        Err(stopped) => match stopped.why {
-            Unread::TooManyTerms => Answer::Full,
-            _ => Answer::Unreadable(stopped),
-        },
+    let mut reader = Reader::new();
+    match read(heap, text, &mut reader) {
+        Ok(conditions) => verdict(&reader, &conditions),
+        Err(
+            Stopped {
+                why: Unread::TooManyTerms,
+                ..
+            },
+        ) => Answer::Full,
+        Err(stopped) => Answer::Unreadable(stopped),
     }
 }
 
-fn verdict(
-    bank: &[TermRecord],
-    count: Count,
-    conditions: &[Condition],
-    labels: &mut [u16],
-) -> Answer
-    requires bank { Bank bank.now count.terms }
-    requires between { Between conditions.now count.terms }
-    requires labels { length labels.old ≡ 512 }
-    ensures { Answers (document (literals bank.now conditions.now)) result }
+fn verdict(reader: &Reader, conditions: &[Condition]) -> Answer
+    requires { Between conditions.now reader.now.count.terms }
+    ensures { Answers (document (literals reader.now.bank conditions.now)) result }
 {
-    match decide(bank, count, conditions, labels) {
+    let mut labels = [0; MOST_TERMS];
+    match decide(&reader.bank, reader.count, conditions, &mut labels) {
         Ok(found) => {
             if found.impossible {
                 Answer::Impossible { joins: found.joins }

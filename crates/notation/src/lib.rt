@@ -8,7 +8,7 @@ mod showing;
 mod words;
 
 /// Why a text is not read.
-#[derive(Clone, Copy)]
+#[derive(Clone, Copy, Debug, PartialEq, Eq)]
 pub enum Unread {
     /// A term is expected.
     NoTerm,

@@ -1,151 +1,130 @@
 //! Terms read from the front of a text into a bank.
-ghost use Rattle.std.specs.Prelude.{◌≡◌, ℕ, ◌<◌, ◌∷◌, ◌++◌, length, IfOk};
+ghost use Rattle.std.specs.Prelude.{◌≡◌, ◌<◌, ◌∷◌, ◌++◌, IfOk};
 ghost use Rattle.terms.specs.Bank.{Bank, Fit, term_of, term_at, literal_of, Extends};
-ghost use Rattle.notation.specs.Written.{written, line};
+ghost use Rattle.notation.specs.Written.{written, line, fit_prop};
+ghost use Rattle.std.proofs.Props.{props};
 
 use super::Unread;
 use super::words::{after, number, sign};
-use terms::{Condition, Count, Node, TermRecord, intern};
+use terms::{Condition, Count, MOST_TERMS, Node, TermRecord, intern};
 
 /// A term that is deeper than this has more subterms than a bank holds.
 const DEEPEST: u16 = 512;
 
-/// The place of a node's term in the bank.
-fn add(bank: &mut [TermRecord], count: &mut Count, node: Node) -> Result<u16, Unread>
-    requires bank { Bank bank.old count.old.terms }
-    requires fit { Fit count.old.terms node }
-    ensures extends { Extends bank.old count.old.terms bank.new count.new.terms }
-    ensures term { IfOk result (λ i. (i < count.new.terms) × (term_at bank.new i ≡ term_of (term_at bank.old) node)) }
-{
-    match intern(bank, count, node) {
-        Ok(place) => Ok(place),
-        Err(_) => Err(Unread::TooManyTerms),
-    }
+/// A bank of the terms that are read, and the arity of each symbol in them.
+#[derive(Drop)]
+pub(crate) struct Reader {
+    pub(crate) bank: [TermRecord; MOST_TERMS],
+    pub(crate) count: Count,
+    ghost terms: { Bank bank count.terms } by { Prim.hlevel (props, fit_prop) },
+    arities: [Option<u8>; 256],
 }
 
-/// Whether a symbol has this arity wherever it was used; notes the arity of a new one.
-fn agrees(arities: &mut [Option<u8>], symbol: u8, arity: u8) -> bool {
-    let symbol = symbol as usize;
-    if symbol >= arities.len() {
-        return false;
-    }
-    match arities[symbol] {
-        Some(known) => known == arity,
-        None => {
-            arities[symbol] = Some(arity);
-            true
+impl Reader {
+    /// Nothing is read.
+    pub(crate) fn new() -> Self {
+        Reader {
+            bank: [TermRecord::BLANK; MOST_TERMS],
+            count: Count { terms: 0 },
+            arities: [None; 256],
         }
     }
-}
 
-/// The term of a symbol over arguments that are read, with the text that follows it.
-fn finish<'a>(
-    rest: &'a [u8],
-    bank: &mut [TermRecord],
-    count: &mut Count,
-    arities: &mut [Option<u8>],
-    node: Node,
-    symbol: u8,
-    arity: u8,
-) -> Result<(u16, &'a [u8]), Unread>
-    requires bank { Bank bank.old count.old.terms }
-    requires fit { Fit count.old.terms node }
-    ensures extends { Extends bank.old count.old.terms bank.new count.new.terms }
-    ensures term { IfOk result (λ p. (p.0 < count.new.terms) × (term_at bank.new p.0 ≡ term_of (term_at bank.old) node) × (p.1.now ≡ rest.now)) }
-{
-    if !agrees(arities, symbol, arity) {
-        return Err(Unread::TwoArities);
+    /// The place of a node's term in the bank.
+    fn add(&mut self, node: Node) -> Result<u16, Unread>
+        requires { Fit self.old.count.terms node }
+        ensures extends { Extends self.old.bank self.old.count.terms self.new.bank self.new.count.terms }
+        ensures term { IfOk result (λ i. (i < self.new.count.terms) × (term_at self.new.bank i ≡ term_of (term_at self.old.bank) node)) }
+    {
+        intern(&mut self.bank, &mut self.count, node).map_err(|_| Unread::TooManyTerms)
     }
-    let place = add(bank, count, node)?;
-    Ok((place, rest))
-}
 
-/// What follows a name at the front of the text.
-fn name<'a>(
-    text: &'a [u8],
-    bank: &mut [TermRecord],
-    count: &mut Count,
-) -> Result<(u16, &'a [u8]), Unread>
-    requires bank { Bank bank.old count.old.terms }
-    ensures extends { Extends bank.old count.old.terms bank.new count.new.terms }
-    ensures term { IfOk result (λ p. (p.0 < count.new.terms) × (120 ∷ text.now ≡ written (term_at bank.new p.0) ++ p.1.now)) }
-{
-    let Some((x, rest)) = number(text) else {
-        return Err(Unread::NoSuchName);
-    };
-    if x >= 32 {
-        return Err(Unread::NoSuchName);
+    /// The term of a symbol over arguments that are read, with the text that follows it.
+    fn finish<'t>(
+        &mut self,
+        rest: &'t [u8],
+        node: Node,
+        symbol: u8,
+        arity: u8,
+    ) -> Result<(u16, &'t [u8]), Unread>
+        requires { Fit self.old.count.terms node }
+        ensures extends { Extends self.old.bank self.old.count.terms self.new.bank self.new.count.terms }
+        ensures term { IfOk result (λ p. (p.0 < self.new.count.terms) × (term_at self.new.bank p.0 ≡ term_of (term_at self.old.bank) node) × (p.1.now ≡ rest.now)) }
+    {
+        if self.arities[symbol as usize].is_some_and(|known| known != arity) {
+            return Err(Unread::TwoArities);
+        }
+        self.arities[symbol as usize] = Some(arity);
+        let place = self.add(node)?;
+        Ok((place, rest))
     }
-    let place = add(bank, count, Node::Name(x))?;
-    Ok((place, rest))
-}
 
-/// A term at the front of the text, at most `room` levels deep, and what follows it.
-fn term<'a>(
-    text: &'a [u8],
-    room: u16,
-    bank: &mut [TermRecord],
-    count: &mut Count,
-    arities: &mut [Option<u8>],
-) -> Result<(u16, &'a [u8]), Unread>
-    requires bank { Bank bank.old count.old.terms }
-    ensures extends { Extends bank.old count.old.terms bank.new count.new.terms }
-    ensures term { IfOk result (λ p. (p.0 < count.new.terms) × (text.now ≡ written (term_at bank.new p.0) ++ p.1.now)) }
-{
-    if let Some(rest) = after(text, b'x') {
-        return name(rest, bank, count);
+    /// What follows a name at the front of the text.
+    fn name<'t>(&mut self, text: &'t [u8]) -> Result<(u16, &'t [u8]), Unread>
+        ensures extends { Extends self.old.bank self.old.count.terms self.new.bank self.new.count.terms }
+        ensures term { IfOk result (λ p. (p.0 < self.new.count.terms) × (120 ∷ text.now ≡ written (term_at self.new.bank p.0) ++ p.1.now)) }
+    {
+        let Some((x @ 0..=31, rest)) = number(text) else {
+            return Err(Unread::NoSuchName);
+        };
+        let place = self.add(Node::Name(x))?;
+        Ok((place, rest))
     }
-    let Some(rest) = after(text, b's') else {
-        return Err(Unread::NoTerm);
-    };
-    let Some((f, rest)) = number(rest) else {
-        return Err(Unread::NoSuchSymbol);
-    };
-    let Some(rest) = after(rest, b'(') else {
-        return finish(rest, bank, count, arities, Node::Constant(f), f, 0);
-    };
-    if room == 0 {
-        return Err(Unread::TooManyTerms);
-    }
-    let (a, rest) = term(rest, room - 1, bank, count, arities)?;
-    if let Some(rest) = after(rest, b')') {
-        return finish(rest, bank, count, arities, Node::Unary(f, a), f, 1);
-    }
-    let Some(rest) = after(rest, b',') else {
-        return Err(Unread::NoArgumentEnd);
-    };
-    let (b, rest) = term(rest, room - 1, bank, count, arities)?;
-    if let Some(rest) = after(rest, b')') {
-        return finish(rest, bank, count, arities, Node::Binary(f, a, b), f, 2);
-    }
-    let Some(rest) = after(rest, b',') else {
-        return Err(Unread::NoArgumentEnd);
-    };
-    let (c, rest) = term(rest, room - 1, bank, count, arities)?;
-    let Some(rest) = after(rest, b')') else {
-        return Err(Unread::NoArgumentEnd);
-    };
-    finish(rest, bank, count, arities, Node::Ternary(f, a, b, c), f, 3)
-}
 
-/// A condition on a line of its own at the front of the text, and what follows the line.
-pub(crate) fn condition<'a>(
-    text: &'a [u8],
-    bank: &mut [TermRecord],
-    count: &mut Count,
-    arities: &mut [Option<u8>],
-) -> Result<(Condition, &'a [u8]), Unread>
-    requires bank { Bank bank.old count.old.terms }
-    ensures extends { Extends bank.old count.old.terms bank.new count.new.terms }
-    ensures line { IfOk result (λ p. (p.0.left < count.new.terms) × (p.0.right < count.new.terms) × (text.now ≡ line (literal_of bank.new p.0) ++ p.1.now)) }
-{
-    let (left, rest) = term(text, DEEPEST, bank, count, arities)?;
-    let Some((sign, rest)) = sign(rest) else {
-        return Err(Unread::NoSign);
-    };
-    let (right, rest) = term(rest, DEEPEST, bank, count, arities)?;
-    let Some(rest) = after(rest, b'\n') else {
-        return Err(Unread::LineGoesOn);
-    };
-    Ok((Condition { left, right, sign }, rest))
+    /// A term at the front of the text, at most `room` levels deep, and what follows it.
+    fn term<'t>(&mut self, text: &'t [u8], room: u16) -> Result<(u16, &'t [u8]), Unread>
+        ensures extends { Extends self.old.bank self.old.count.terms self.new.bank self.new.count.terms }
+        ensures term { IfOk result (λ p. (p.0 < self.new.count.terms) × (text.now ≡ written (term_at self.new.bank p.0) ++ p.1.now)) }
+    {
+        if let Some(rest) = after(text, b'x') {
+            return self.name(rest);
+        }
+        let Some(rest) = after(text, b's') else {
+            return Err(Unread::NoTerm);
+        };
+        let Some((f, rest)) = number(rest) else {
+            return Err(Unread::NoSuchSymbol);
+        };
+        let Some(rest) = after(rest, b'(') else {
+            return self.finish(rest, Node::Constant(f), f, 0);
+        };
+        if room == 0 {
+            return Err(Unread::TooManyTerms);
+        }
+        let (a, rest) = self.term(rest, room - 1)?;
+        if let Some(rest) = after(rest, b')') {
+            return self.finish(rest, Node::Unary(f, a), f, 1);
+        }
+        let Some(rest) = after(rest, b',') else {
+            return Err(Unread::NoArgumentEnd);
+        };
+        let (b, rest) = self.term(rest, room - 1)?;
+        if let Some(rest) = after(rest, b')') {
+            return self.finish(rest, Node::Binary(f, a, b), f, 2);
+        }
+        let Some(rest) = after(rest, b',') else {
+            return Err(Unread::NoArgumentEnd);
+        };
+        let (c, rest) = self.term(rest, room - 1)?;
+        let Some(rest) = after(rest, b')') else {
+            return Err(Unread::NoArgumentEnd);
+        };
+        self.finish(rest, Node::Ternary(f, a, b, c), f, 3)
+    }
+
+    /// A condition on a line of its own at the front of the text, and what follows the line.
+    pub(crate) fn condition<'t>(&mut self, text: &'t [u8]) -> Result<(Condition, &'t [u8]), Unread>
+        ensures extends { Extends self.old.bank self.old.count.terms self.new.bank self.new.count.terms }
+        ensures line { IfOk result (λ p. (p.0.left < self.new.count.terms) × (p.0.right < self.new.count.terms) × (text.now ≡ line (literal_of self.new.bank p.0) ++ p.1.now)) }
+    {
+        let (left, rest) = self.term(text, DEEPEST)?;
+        let Some((sign, rest)) = sign(rest) else {
+            return Err(Unread::NoSign);
+        };
+        let (right, rest) = self.term(rest, DEEPEST)?;
+        let Some(rest) = after(rest, b'\n') else {
+            return Err(Unread::LineGoesOn);
+        };
+        Ok((Condition { left, right, sign }, rest))
+    }
 }

@@ -1,9 +1,9 @@
 //! Answers as they are printed.
 ghost use Rattle.std.specs.Prelude.{◌≡◌, Some};
-ghost use Rattle.notation.specs.Shown.{reason_text, answer_text};
+ghost use Rattle.notation.specs.Shown.{reason_text, stopped_text, answer_text};
 
 use super::Unread;
-use super::document::Answer;
+use super::document::{Answer, Stopped};
 use std::fmt;
 
 impl Unread {
@@ -25,23 +25,35 @@ impl Unread {
     }
 }
 
-/// `impossible joins J`, `possible`, `full`, or `line L: ` and what is wrong.
+impl fmt::Display for Unread {
+    ghost output = { λ why. Some (reason_text why) };
+
+    fn fmt<W: fmt::Write>(&self, f: &mut fmt::Formatter<W>) -> fmt::Result {
+        f.write_str(self.reason())
+    }
+}
+
+/// `line L: ` and what is wrong.
+impl fmt::Display for Stopped {
+    ghost output = { λ s. Some (stopped_text s) };
+
+    fn fmt<W: fmt::Write>(&self, f: &mut fmt::Formatter<W>) -> fmt::Result {
+        let line = self.line;
+        let why = self.why;
+        write!(f, "line {line}: {why}")
+    }
+}
+
+/// `impossible joins J`, `possible`, `full`, or where the text could not be read on.
 impl fmt::Display for Answer {
     ghost output = { λ a. Some (answer_text a) };
 
     fn fmt<W: fmt::Write>(&self, f: &mut fmt::Formatter<W>) -> fmt::Result {
         match self {
-            Answer::Impossible { joins } => {
-                let joins = *joins;
-                write!(f, "impossible joins {joins}")
-            }
+            Answer::Impossible { joins } => write!(f, "impossible joins {joins}"),
             Answer::Possible => write!(f, "possible"),
             Answer::Full => write!(f, "full"),
-            Answer::Unreadable(stopped) => {
-                let line = stopped.line;
-                let reason = stopped.why.reason();
-                write!(f, "line {line}: {reason}")
-            }
+            Answer::Unreadable(stopped) => write!(f, "{stopped}"),
         }
     }
 }

@@ -8,20 +8,17 @@ use terms::Sign;
 pub(crate) fn after(text: &[u8], byte: u8) -> Option<&[u8]>
     ensures { IfSome result (λ rest. text.now ≡ byte ∷ rest.now) }
 {
-    if text.len() == 0 || text[0] != byte {
-        return None;
-    }
-    Some(&text[1..])
+    text.strip_prefix(&[byte])
 }
 
 /// A decimal digit at the front of the text, and what follows it.
 fn digit(text: &[u8]) -> Option<(u8, &[u8])>
     ensures { IfSome result (λ p. (p.0 < 10) × (text.now ≡ (48 + p.0) ∷ p.1.now)) }
 {
-    if text.len() == 0 || text[0] < b'0' || text[0] > b'9' {
-        return None;
+    match text {
+        [first @ b'0'..=b'9', rest @ ..] => Some((*first - b'0', rest)),
+        _ => None,
     }
-    Some((text[0] - b'0', &text[1..]))
 }
 
 /// A number below 256 at the front of the text, without leading zeros, and what follows it.
@@ -39,22 +36,17 @@ pub(crate) fn number(text: &[u8]) -> Option<(u8, &[u8])>
     let Some((third, last)) = digit(more) else {
         return Some((two, more));
     };
-    if two > 25 || two == 25 && third > 5 {
-        return None;
-    }
-    Some((two * 10 + third, last))
+    let three = two.checked_mul(10)?.checked_add(third)?;
+    Some((three, last))
 }
 
 /// The sign at the front of the text, with a space on both sides, and what follows it.
 pub(crate) fn sign(text: &[u8]) -> Option<(Sign, &[u8])>
     ensures { IfSome result (λ p. text.now ≡ sign_text p.0 ++ p.1.now) }
 {
-    let rest = after(text, b' ')?;
-    if let Some(rest) = after(rest, b'=') {
-        let rest = after(rest, b' ')?;
+    if let Some(rest) = text.strip_prefix(b" = ") {
         return Some((Sign::Equal, rest));
     }
-    let rest = after(rest, b'#')?;
-    let rest = after(rest, b' ')?;
+    let rest = text.strip_prefix(b" # ")?;
     Some((Sign::Different, rest))
 }

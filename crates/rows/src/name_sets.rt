@@ -9,19 +9,7 @@ ghost use Rattle.rows.specs.Records.{row_in, Between, Inside};
 use crate::row::RowRecord;
 use crate::shape::readings_of;
 use sheet::Sheet;
-use terms::{Condition, Node, Sign, TermRecord};
-
-const NO_RECORD: TermRecord = TermRecord {
-    node: Node::Name(0),
-    height: 0,
-    names: 0,
-};
-
-const NO_CONDITION: Condition = Condition {
-    left: 0,
-    right: 0,
-    sign: Sign::Equal,
-};
+use terms::{Condition, TermRecord};
 
 /// The element of that number; past the end the default.
 pub fn at_or<T: Copy>(xs: &[T], n: usize, default: T) -> T
@@ -33,16 +21,16 @@ pub fn at_or<T: Copy>(xs: &[T], n: usize, default: T) -> T
 fn names_at(bank: &[TermRecord], place: u16) -> u32
     ensures { result ≡ (get_or bank.now place no_record).names }
 {
-    at_or(bank, place as usize, NO_RECORD).names
+    at_or(bank, place as usize, TermRecord::BLANK).names
 }
 
-/// The names in the terms at the first `used` places.
-pub fn names_of_terms(bank: &[TermRecord], places: &[u16], used: usize) -> u32
-    ensures { (n : ℕ) → Bank bank.now n → used ≤ length places.now → ((k : ℕ) → k < used → slice_index places.now k < n) → NamesOfTerms result (map (term_at bank.now) (take used places.now)) }
+/// The names in the terms at some places.
+pub fn names_of_terms(bank: &[TermRecord], places: &[u16]) -> u32
+    ensures { (n : ℕ) → Bank bank.now n → ((k : ℕ) → k < length places.now → slice_index places.now k < n) → NamesOfTerms result (map (term_at bank.now) places.now) }
 {
     let mut names = 0;
-    for k in 0..used {
-        names |= names_at(bank, at_or(places, k, 0));
+    for place in places {
+        names |= names_at(bank, *place);
     }
     names
 }
@@ -53,33 +41,35 @@ fn names_of_condition(bank: &[TermRecord], condition: Condition) -> u32
     names_at(bank, condition.left) | names_at(bank, condition.right)
 }
 
-/// The names in the first `used` conditions.
-pub fn names_of_conditions(bank: &[TermRecord], conditions: &[Condition], used: usize) -> u32
-    ensures { (n : ℕ) → Bank bank.now n → used ≤ length conditions.now → Between n conditions.now used → NamesOfLiterals result (map (literal_of bank.now) (take used conditions.now)) }
+/// The names in some conditions.
+pub fn names_of_conditions(bank: &[TermRecord], conditions: &[Condition]) -> u32
+    ensures { (n : ℕ) → Bank bank.now n → Between n conditions.now (length conditions.now) → NamesOfLiterals result (map (literal_of bank.now) conditions.now) }
 {
     let mut names = 0;
-    for k in 0..used {
-        names |= names_of_condition(bank, at_or(conditions, k, NO_CONDITION));
+    for condition in conditions {
+        names |= names_of_condition(bank, *condition);
     }
     names
+}
+
+/// The first `n` elements; all where there are fewer.
+pub(crate) fn front<T>(xs: &[T], n: usize) -> &[T]
+    ensures { result.now ≡ take n xs.now }
+{
+    xs.get(..n).unwrap_or(xs)
 }
 
 /// The names that stand in a row.
 pub fn names_of_row(sheet: &Sheet, bank: &[TermRecord], row: &RowRecord) -> u32
     ensures { (n most : ℕ) → Bank bank.now n → Inside (sheet_of sheet.now) n most row.now → NamesOfRow result (row_in (sheet_of sheet.now) bank.now row.now) }
 {
-    names_of_terms(bank, &row.vector, readings_of(sheet))
-        | names_of_conditions(bank, &row.conditions, row.used as usize)
+    names_of_terms(bank, front(&row.vector, readings_of(sheet)))
+        | names_of_conditions(bank, front(&row.conditions, row.used as usize))
 }
 
 /// The lowest of the 32 names that is not in the set.
 pub fn lowest_free(names: u32) -> Option<u8>
     ensures { result ≡ lowest_free (is_in names) }
 {
-    for x in 0..32 {
-        if (names >> x) % 2 != 1 {
-            return Some(x);
-        }
-    }
-    None
+    (0..32).find(|x| (names >> *x) % 2 != 1)
 }

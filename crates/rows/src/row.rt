@@ -1,5 +1,5 @@
 //! A row in lent memory.
-use terms::{Condition, Sign};
+use terms::Condition;
 
 /// The most conditions of a row that a table keeps.
 pub const MOST_CONDITIONS: usize = 16;
@@ -22,11 +22,7 @@ impl RowRecord {
     pub const BLANK: RowRecord = RowRecord {
         bits: [false; 16],
         vector: [0; 6],
-        conditions: [Condition {
-            left: 0,
-            right: 0,
-            sign: Sign::Equal,
-        }; 22],
+        conditions: [Condition::BLANK; 22],
         used: 0,
     };
 }

@@ -7,11 +7,11 @@ use sheet::Sheet;
 pub fn bits_of(sheet: &Sheet) -> usize
     ensures { result ≡ length (sheet_of sheet.now).bits }
 {
-    sheet.parts.bits.as_slice().len()
+    sheet.parts.bits.len()
 }
 
 pub fn readings_of(sheet: &Sheet) -> usize
     ensures { result ≡ length (sheet_of sheet.now).readings }
 {
-    sheet.parts.readings.as_slice().len()
+    sheet.parts.readings.len()
 }

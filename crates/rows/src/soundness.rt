@@ -9,32 +9,17 @@ use banks::is_bank;
 use sheet::Sheet;
 use terms::{Condition, MOST_TERMS, TermRecord};
 
-fn are_terms(places: &[u16], used: usize, terms: usize) -> bool
-    ensures { Decides result ((used ≤ length places.now) × ((k : ℕ) → k < used → slice_index places.now k < terms)) }
+fn are_terms(places: &[u16], terms: usize) -> bool
+    ensures { Decides result ((k : ℕ) → k < length places.now → slice_index places.now k < terms) }
 {
-    if used > places.len() {
-        return false;
-    }
-    for k in 0..used {
-        if places[k] as usize >= terms {
-            return false;
-        }
-    }
-    true
+    places.iter().all(|place| (*place as usize) < terms)
 }
 
-fn are_between(conditions: &[Condition], used: usize, terms: usize) -> bool
-    ensures { Decides result ((used ≤ length conditions.now) × Between terms conditions.now used) }
+fn are_between(conditions: &[Condition], terms: usize) -> bool
+    ensures { Decides result (Between terms conditions.now (length conditions.now)) }
 {
-    if used > conditions.len() {
-        return false;
-    }
-    for k in 0..used {
-        if conditions[k].left as usize >= terms || conditions[k].right as usize >= terms {
-            return false;
-        }
-    }
-    true
+    conditions.iter().all(|condition| (condition.left as usize) < terms
+        && (condition.right as usize) < terms)
 }
 
 /// Whether the record stands for a row of the sheet with at most `most` conditions, all of whose terms are among the
@@ -44,8 +29,14 @@ pub fn is_inside(sheet: &Sheet, terms: usize, most: u8, row: &RowRecord) -> bool
 {
     bits_of(sheet) <= row.bits.len()
         && row.used <= most
-        && are_terms(&row.vector, readings_of(sheet), terms)
-        && are_between(&row.conditions, row.used as usize, terms)
+        && row
+            .vector
+            .get(..readings_of(sheet))
+            .is_some_and(|places| are_terms(places, terms))
+        && row
+            .conditions
+            .get(..row.used as usize)
+            .is_some_and(|conditions| are_between(conditions, terms))
 }
 
 /// Whether memory is a bank of 512 places and the record a row of the sheet over its first `terms`.

@@ -1,4 +1,4 @@
-use Rattle.std.proofs.Common.{arith}
+use Rattle.std.proofs.Common.{◌≡◌, ◌+◌, ◌*◌, rules, arith}
 use Rattle.notation.proofs.Numbers.{one_digit, two_digits, three_digits}
 use Rattle.notation.proofs.words.number.Goals as goal
 
@@ -21,4 +21,5 @@ returns c =
     let d = c.in_ok-first.ensures in
     let e = c.in-Some.ensures in
     let f = c.in-Some-digit.ensures in
-    three_digits c.in_ok-first.first c.in-Some.second c.in-Some-digit.third _ _ _ _ (omega arith) d.0 e.0 f.0 d.1 e.1 f.1
+    let is : c.in_ok-three.three ≡ (c.in_ok-first.first * 10 + c.in-Some.second) * 10 + c.in-Some-digit.third = search rules in
+    rw is (three_digits c.in_ok-first.first c.in-Some.second c.in-Some-digit.third _ _ _ _ (omega arith) d.0 e.0 f.0 d.1 e.1 f.1)

@@ -1,15 +1,13 @@
-use Rattle.std.proofs.Common.{◌≡◌, ◌-◌, sym, ap, ◌∙◌, arith}
-use Rattle.std.proofs.lemmas.Bool.{eq-eqb, ne_eqb}
-use Rattle.forms.specs.Rows.{lowest_from}
+use Rattle.std.proofs.Common.{◌≡◌, true, false, rules, tests, arith}
+use Rattle.std.proofs.lemmas.Iterator.{first_from_Range}
 use Rattle.rows.specs.Names.{is_in}
-use Rattle.rows.proofs.Sets.{found_free, next_free}
+use Rattle.rows.proofs.Sets.{lowest_is}
 use Rattle.rows.proofs.name_sets.lowest_free.Goals as goal
 
-pub returns-then-names-x-ne1 : goal.returns-then-names-x-ne1
-returns-then-names-x-ne1 c = sym (c.loop-x.invariant ∙ found_free c.args.names c.loop-x.x c.loop-x-test.true (ne_eqb _ 1 c.if-names-x-ne1.true))
-
-pub loop-x-preserved : goal.loop-x-preserved
-loop-x-preserved c = c.loop-x.invariant ∙ next_free c.args.names c.loop-x.x c.loop-x-test.true (eq-eqb _ 1 c.if-names-x-ne1.false)
-
 pub returns : goal.returns
-returns c = let e : 32 - c.loop-x.x ≡ 0 = omega (arith, c.loop-x-test.false) in sym (c.loop-x.invariant ∙ ap (λ k. lowest_from (is_in c.args.names) k c.loop-x.x) e)
+returns c =
+    let taken = is_in c.args.names in
+    lowest_is taken c.find.result
+    (first_from_Range _ _ _ _ (λ x. taken x ≡ false) (λ x. taken x ≡ true) c.find.ensures.ran
+    (λ x q k. grind (arith, tests))
+    (λ x q k. (search rules, grind (arith, tests))))

@@ -1,13 +1,13 @@
-use Rattle.std.proofs.Common.{map, take, subst}
+use Rattle.std.proofs.Common.{length}
 use Rattle.sheet.specs.View.{sheet_of}
-use Rattle.terms.specs.Bank.{term_at}
-use Rattle.rows.specs.Names.{NamesOfTerms}
 use Rattle.rows.specs.Records.{row_in}
-use Rattle.rows.proofs.Sets.{row_names}
+use Rattle.rows.proofs.Sets.{row_names, take_below, take_between}
 use Rattle.rows.proofs.name_sets.names_of_row.Goals as goal
 
 pub returns : goal.returns
 returns c n most bank inside =
-    let vector = subst (λ k. NamesOfTerms c.names_of_terms.result (map (term_at c.args.bank.now) (take k c.args.row.now.vector))) c.readings_of.ensures
-    (c.names_of_terms.ensures n bank (rw c.readings_of.ensures inside.readings) (λ k lt. inside.vector k (rw c.readings_of.ensures at lt))) in
-    row_names (row_in (sheet_of c.args.sheet.now) c.args.bank.now c.args.row.now) c.names_of_terms.result c.names_of_conditions.result vector (c.names_of_conditions.ensures n bank inside.stored inside.conditions)
+    let s = sheet_of c.args.sheet.now in
+    let row = c.args.row.now in
+    let terms = rw (c.front.ensures, c.readings_of.ensures) at c.names_of_terms.ensures in
+    let literals = rw c.front-2.ensures at c.names_of_conditions.ensures in
+    row_names (row_in s c.args.bank.now row) c.names_of_terms.result c.names_of_conditions.result (terms n bank (take_below (length s.readings) n row.vector inside.readings inside.vector)) (literals n bank (take_between row.used n row.conditions inside.stored inside.conditions))

@@ -1,14 +1,14 @@
-use Rattle.std.proofs.Common.{◌≡◌, map, take, subst, arith}
-use Rattle.terms.specs.Bank.{term_at}
-use Rattle.rows.specs.Names.{NamesOfTerms}
+use Rattle.std.proofs.Common.{arith}
+use Rattle.std.proofs.lemmas.List.{take_all}
 use Rattle.rows.proofs.Sets.{terms_step}
 use Rattle.rows.proofs.name_sets.names_of_terms.Goals as goal
 
-pub loop-k-preserved : goal.loop-k-preserved
-loop-k-preserved c n bank long inside =
-    terms_step c.args.bank.now n bank c.args.places.now c.loop-k.k c.loop-k.names c.at_or.result c.names_at-names.result (omega (arith, long, c.loop-k-test.true)) (inside c.loop-k.k c.loop-k-test.true) (c.loop-k.invariant n bank long inside) c.at_or.ensures c.names_at-names.ensures
+pub loop-place-preserved : goal.loop-place-preserved
+loop-place-preserved c n bank inside =
+    let k = c.loop-place.place-index in
+    terms_step c.args.bank.now n bank c.args.places.now k c.loop-place.names c.names_at-names.result c.loop-place-test.true (inside k c.loop-place-test.true) (c.loop-place.invariant n bank inside) c.names_at-names.ensures
 
 pub returns : goal.returns
-returns c n bank long inside =
-    let e : c.loop-k.k ≡ c.args.used = omega (arith, c.loop-k-test.false, c.loop-k.auto.k-end) in
-    subst (λ k. NamesOfTerms c.loop-k.names (map (term_at c.args.bank.now) (take k c.args.places.now))) e (c.loop-k.invariant n bank long inside)
+returns c n bank inside =
+    let all = take_all c.loop-place.place-index c.args.places.now (omega arith) in
+    rw all at (c.loop-place.invariant n bank inside)

@@ -1,4 +1,4 @@
-use Rattle.notation.proofs.reading.+term.Given as goal
+use Rattle.notation.proofs.reading.Reader.+term.Given as goal
 
 abbrev pub decreases-term : goal.decreases-term
 decreases-term l = l.room

@@ -3,18 +3,18 @@ use Rattle.terms.specs.Bank.{term_at}
 use Rattle.notation.specs.Written.{written}
 use Rattle.terms.proofs.Filing.{extends_more}
 use Rattle.notation.proofs.Shapes.{line_read}
-use Rattle.notation.proofs.reading.condition.Goals as goal
+use Rattle.notation.proofs.reading.Reader.condition.Goals as goal
 
 pub returns : goal.returns
 returns c =
-    let rs₁ = c.term.new.bank in
-    let rs₂ = c.term-2.new.bank in
+    let rs₁ = c.term.new.self.bank in
+    let rs₂ = c.term-2.new.self.bank in
     let grown = c.term-2.ensures.extends in
     let read_left = c.in_ok-left.ensures.term in
     let read_right = c.in_ok-right.ensures.term in
     let stays = (grown.stays c.in_ok-left.left read_left.0).1 in
     record {
-      extends = extends_more c.args.bank.now rs₁ rs₂ c.args.count.now.terms c.term.new.count.terms c.term-2.new.count.terms c.term.ensures.extends grown;
+      extends = extends_more c.args.self.now.bank rs₁ rs₂ c.args.self.now.count.terms c.term.new.self.count.terms c.term-2.new.self.count.terms c.term.ensures.extends grown;
       line = (
         omega (arith, read_left.0, grown.more),
         read_right.0,
