@@ -1,7 +1,7 @@
 -- What the numbers of one directive say. Assumes nothing.
-use Rattle.std.specs.Prelude.{ℕ, cond, List, [], ◌∷◌, Some, None, Ok, Err, codes, Option, Result, nat_lt}
+use Rattle.std.specs.Prelude.{ℕ, cond, List, [], ◌∷◌, Ok, Err, codes, Result, nat_lt}
 use Rattle.run_file_error.specs.declared.Problem.{Problem}
-use Rattle.run_file_error.specs.declared.Problem.TheVariants.{TooFewNumbers, TooManyNumbers, SymbolTooLarge, CoefficientTooLarge}
+use Rattle.run_file_error.specs.declared.Problem.TheVariants.{UnknownDirective, TooFewNumbers, TooManyNumbers, SymbolTooLarge, CoefficientTooLarge}
 use Rattle.run_file.specs.declared.directive.Keyword.{Keyword}
 use Rattle.plant.specs.declared.affine.Curve.{Curve}
 use Rattle.plant.specs.declared.listed.Entry.{Entry}
@@ -23,12 +23,12 @@ name_of Keyword.Start = codes "start"
 name_of Keyword.Steps = codes "steps"
 name_of Keyword.Inputs = codes "inputs"
 
-abbrev named : Keyword → List ℕ → Option Keyword → Option Keyword
-named k word others = cond (bytes_eq word (name_of k)) (Some k) others
+abbrev named : Keyword → List ℕ → Result Keyword Problem → Result Keyword Problem
+named k word others = cond (bytes_eq word (name_of k)) (Ok k) others
 
 -- the directive whose name the word is
-abbrev pub keyword_of : List ℕ → Option Keyword
-keyword_of word = named Keyword.Listed word (named Keyword.Affine word (named Keyword.Entry word (named Keyword.Curve word (named Keyword.Start word (named Keyword.Steps word (named Keyword.Inputs word None))))))
+abbrev pub keyword_of : List ℕ → Result Keyword Problem
+keyword_of word = named Keyword.Listed word (named Keyword.Affine word (named Keyword.Entry word (named Keyword.Curve word (named Keyword.Start word (named Keyword.Steps word (named Keyword.Inputs word (Err UnknownDirective)))))))
 
 abbrev pub one_of : List ℕ → Result ℕ Problem
 one_of [] = Err TooFewNumbers

@@ -10,7 +10,7 @@ use Rattle.run_file.specs.declared.Plant.{Plant}
 use Rattle.run_file_error.specs.declared.Problem.{Problem}
 use Rattle.run_file_error.specs.declared.ReadFailure.{ReadFailure}
 use Rattle.run_file.specs.declared.RunFile.{RunFile}
-use Rattle.run_file_error.specs.declared.Problem.TheVariants.{UnknownDirective, PlantMissing, StartMissing, StepsMissing, PlantNotFirst, PlantRepeated, EntryUnderAffine, CurveUnderListed, StartRepeated, StepsRepeated}
+use Rattle.run_file_error.specs.declared.Problem.TheVariants.{PlantMissing, StartMissing, StepsMissing, PlantNotFirst, PlantRepeated, EntryUnderAffine, CurveUnderListed, StartRepeated, StepsRepeated}
 use Rattle.run_file.specs.declared.directive.Keyword.{Keyword}
 use Rattle.run_file.specs.declared.draft.Draft.{Draft}
 use Rattle.std.specs.Option.{option_map}
@@ -107,14 +107,10 @@ acted Keyword.Start d ns = and_then (named d.plant) (λ _. and_then (fresh Start
 acted Keyword.Steps d ns = and_then (named d.plant) (λ _. and_then (fresh StepsRepeated d.steps) (λ _. and_then (one_of ns) (λ n. Ok (with_steps d n))))
 acted Keyword.Inputs d ns = and_then (named d.plant) (λ _. Ok (with_inputs d ns))
 
-abbrev directive : Option Keyword → Sofar → Result (List ℕ) Problem → Result Sofar Problem
-directive None d ns = Err UnknownDirective
-directive (Some k) d ns = and_then ns (acted k d)
-
 -- a line without words says nothing
 abbrev pub line_says : Sofar → List (List ℕ) → Result Sofar Problem
 line_says d [] = Ok d
-line_says d (w ∷ ws) = directive (keyword_of w) d (numbers_of ws)
+line_says d (w ∷ ws) = and_then (keyword_of w) (λ k. and_then (numbers_of ws) (acted k d))
 
 abbrev pub failed_at : ℕ → Halt → ReadFailure
 failed_at line (Halt.Problem p) = ReadFailure.Line (record { line = line; problem = p })

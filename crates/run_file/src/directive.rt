@@ -19,18 +19,22 @@ pub(crate) enum Keyword {
 }
 
 /// The directive whose name the word is.
-pub(crate) fn named_by(word: &[u8]) -> Option<Keyword>
-    ensures { result ≡ keyword_of word.now }
-{
-    match word {
-        b"listed" => Some(Keyword::Listed),
-        b"affine" => Some(Keyword::Affine),
-        b"entry" => Some(Keyword::Entry),
-        b"curve" => Some(Keyword::Curve),
-        b"start" => Some(Keyword::Start),
-        b"steps" => Some(Keyword::Steps),
-        b"inputs" => Some(Keyword::Inputs),
-        _ => None,
+impl TryFrom<&[u8]> for Keyword {
+    type Error = Problem;
+
+    ghost try_from_gives = { λ word r. r ≡ keyword_of word.now };
+
+    fn try_from(word: &[u8]) -> Result<Keyword, Problem> {
+        match word {
+            b"listed" => Ok(Keyword::Listed),
+            b"affine" => Ok(Keyword::Affine),
+            b"entry" => Ok(Keyword::Entry),
+            b"curve" => Ok(Keyword::Curve),
+            b"start" => Ok(Keyword::Start),
+            b"steps" => Ok(Keyword::Steps),
+            b"inputs" => Ok(Keyword::Inputs),
+            _ => Err(Problem::UnknownDirective),
+        }
     }
 }
 

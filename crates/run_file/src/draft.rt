@@ -3,7 +3,7 @@ ghost use Rattle.std.specs.Prelude.{◌≡◌, ℕ, map, vec_items};
 ghost use Rattle.run_file.specs.Text.{words_of};
 ghost use Rattle.run_file.specs.Reading.{Means, Said, plant_of, numbers_of, so_far, nothing, named, fresh, first_named, acted, line_says};
 
-use crate::directive::{Keyword, curve_of, entry_of, named_by, one_of};
+use crate::directive::{Keyword, curve_of, entry_of, one_of};
 use crate::words::{number, words_of};
 use crate::{Halt, Plant};
 use run_file_error::Problem;
@@ -152,7 +152,7 @@ impl Draft {
         let [name, rest @ ..] = words.as_slice() else {
             return Ok(());
         };
-        let keyword = named_by(name).ok_or(Problem::UnknownDirective)?;
+        let keyword = Keyword::try_from(*name)?;
         let numbers = numbers(heap, rest)?;
         self.take(heap, keyword, numbers)
     }

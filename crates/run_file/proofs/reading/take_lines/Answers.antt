@@ -1,4 +1,4 @@
-use Rattle.std.proofs.Common.{◌+◌, [], ◌∷◌, drop, length-append, sym, subst, ap, ◌∙◌, arith, rules, tests}
+use Rattle.std.proofs.Common.{◌≡◌, length, ◌+◌, [], ◌∷◌, drop, length-append, sym, subst, ap, ◌∙◌, arith, rules, tests}
 use Rattle.std.specs.Prelude.{◌==◌}
 use Rattle.std.proofs.lemmas.Iterator.Consumers.{YieldsList-at}
 use Rattle.std.proofs.lemmas.Iterator.Splits.{YieldsList-from_slice_split}
@@ -29,4 +29,6 @@ returns-clause-said c =
     ∙ lines_end c.args.bytes.now (YieldsList-at c.into_iter-text-iterator.ensures.into_iter_gives (YieldsList-from_slice_split _ (λ b. b == 10) c.args.bytes.now c.split-text-items.ensures.rest c.split-text-items.ensures.done c.split-text-items.ensures.closure (λ x r q k. search (rules, tests)))) c.loop-text.yielded c.loop-text.text-iterator c.loop-text.yielded_by c.next.result c.next.new.self c.next.ensures.steps _ c.loop-text.invariant.0 _ c.in-None.is
 
 pub returns-clause-count : goal.returns-clause-count
-returns-clause-count c = lines_all c.args.bytes.now (YieldsList-at c.into_iter-text-iterator.ensures.into_iter_gives (YieldsList-from_slice_split _ (λ b. b == 10) c.args.bytes.now c.split-text-items.ensures.rest c.split-text-items.ensures.done c.split-text-items.ensures.closure (λ x r q k. search (rules, tests)))) c.loop-text.yielded c.loop-text.text-iterator c.loop-text.yielded_by c.next.result c.next.new.self c.next.ensures.steps _ c.loop-text.invariant.0 (so_far c.loop-text.draft) c.in-None.is
+returns-clause-count c =
+    let all : c.loop-text.line ≡ length (lines_of c.args.bytes.now) = lines_all c.args.bytes.now (YieldsList-at c.into_iter-text-iterator.ensures.into_iter_gives (YieldsList-from_slice_split _ (λ b. b == 10) c.args.bytes.now c.split-text-items.ensures.rest c.split-text-items.ensures.done c.split-text-items.ensures.closure (λ x r q k. search (rules, tests)))) c.loop-text.yielded c.loop-text.text-iterator c.loop-text.yielded_by c.next.result c.next.new.self c.next.ensures.steps _ c.loop-text.invariant.0 (so_far c.loop-text.draft) c.in-None.is in
+    omega (arith, all)

@@ -1,10 +1,10 @@
-use Rattle.std.proofs.Common.{◌≡◌, ℕ, List, Some, codes, length, sym, refl, ap, ◌∙◌, arith, rules}
+use Rattle.std.proofs.Common.{◌≡◌, ℕ, List, Ok, codes, length, sym, refl, ap, ◌∙◌, arith, rules}
 use Rattle.std.proofs.lemmas.Slice.Eq.{HasBytesAt, text_from_reads}
 use Rattle.run_file.specs.Directive.{keyword_of}
 use Rattle.run_file.specs.declared.directive.Keyword.{Keyword}
-use Rattle.run_file.proofs.directive.named_by.Goals as goal
+use Rattle.run_file.proofs.directive.KeywordTryFromRefSliceU8.try_from.Goals as goal
 
-reads : (k : Keyword) (word name : List ℕ) → keyword_of name ≡ Some k → length word ≡ length name → HasBytesAt word 0 name → Some k ≡ keyword_of word
+reads : (k : Keyword) (word name : List ℕ) → keyword_of name ≡ Ok k → length word ≡ length name → HasBytesAt word 0 name → Ok k ≡ keyword_of word
 reads k word name is long bytes = sym (ap keyword_of (text_from_reads word name long bytes) ∙ is)
 
 pub returns-in-listed : goal.returns-in-listed
