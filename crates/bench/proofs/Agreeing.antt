@@ -15,11 +15,8 @@ use Rattle.sheet.specs.Truth.{Meaning, term_value, term_values, equal, answers, 
 use Rattle.sheet.proofs.Eaches.{left_true, right_true}
 use Rattle.sheet.proofs.Growing.{grow_at, grow-length}
 use Rattle.bench.specs.Outcome.{Same}
-use Rattle.bench.specs.Values.{Filled, Due}
+use Rattle.bench.specs.Values.{Due}
 use Rattle.bench.proofs.Evaluating.{term_known, cut_due, unlike}
-
-pub filled-same : {V : Type 0} (d : V) (out values : List V) → Filled d out values → length values ≤ length out → Same d out values
-filled-same d out values h l k = ⊎_elim (λ (t : (ltb k (length out) ≡ true) × (k < length out)). h k t.1) (λ (t : (ltb k (length out) ≡ false) × (length out < suc k)). get_or_past out k d (omega (arith, t.1)) ∙ sym (get_or_past values k d (omega (arith, t.1)))) (leb_tells (suc k) (length out))
 
 grow-same : {N V : Type 0} (f g : List V → N → V) → ((seen : List V) (x : N) → f seen x ≡ g seen x) → (seen : List V) (xs : List N) → grow f seen xs ≡ grow g seen xs
 grow-same f g h seen [] = refl

@@ -6,7 +6,7 @@ use Rattle.sheet.specs.declared.syntax.Equation.{Equation}
 use Rattle.sheet.specs.declared.syntax.Reading.{Reading}
 use Rattle.sheet.specs.declared.syntax.Record.{Record}
 use Rattle.sheet.specs.Lawful.{Few}
-use Rattle.sheet.specs.Rules.{obeys_at, contains_input}
+use Rattle.sheet.specs.Rules.{obeys_at, contains_input, input_at, term_infos}
 use Rattle.sheet.specs.Runs.{Configuration, start, start_bit, start_reading, or_kept, numbered, step, step_values, step_truths, step_chosen, next_bit, next_reading}
 use Rattle.sheet.specs.System.{System}
 use Rattle.sheet.specs.Truth.{Meaning, term_value, term_values, equal, answers, truth_of, truths, term_of_choice, chosen}
@@ -14,29 +14,24 @@ use Rattle.sheet.proofs.Eaches.{left_true, right_true}
 use Rattle.sheet.proofs.Growing.{grow-length}
 use Rattle.bench.specs.declared.configuration.Configuration.{Configuration as Place}
 use Rattle.bench.specs.Outcome.{Same, Holds, Runnable}
-use Rattle.bench.specs.Values.{Filled, Flags, Known}
+use Rattle.bench.specs.Values.{Known}
 use Rattle.bench.proofs.Evaluating.{unlike}
-use Rattle.bench.proofs.Filling.{numbered-length}
-use Rattle.bench.proofs.Agreeing.{filled-same, numbered-same, or_kept_same, values_same, answers-same, truths-same, chosen-same, not_due, plain-same, map_each}
+use Rattle.bench.proofs.Filling.{Filled, filled-same}
+use Rattle.bench.proofs.Agreeing.{numbered-same, or_kept_same, values_same, answers-same, truths-same, chosen-same, not_due, plain-same, map_each}
 
 within : (a b : ℕ) → leb a b ≡ true → a ≤ b
 within a b e = leb-true a b e
-
--- the start
-pub started : (m : Meaning) (s : System) (starts : List ℕ) (place : Place) → Few s → length place.bits ≡ 16 → length place.readings ≡ 6 → Filled false place.bits (map start_bit s.bits) → Filled 0 place.readings (map (start_reading m starts) s.readings) → Holds place (start m s starts)
-started m s starts place few lb lr fb fr =
-    record { bits = filled-same false place.bits (map start_bit s.bits) fb (omega (arith, within (length s.bits) 16 few.bits, length-map s.bits start_bit)); readings = filled-same 0 place.readings (map (start_reading m starts) s.readings) fr (omega (arith, within (length s.readings) 6 few.readings, length-map s.readings (start_reading m starts))) }
 
 not-true : (x : Bool) → not x ≡ true → x ≡ false
 not-true true e = sym e
 not-true false e = refl
 
 -- claims are over terms without inputs
-module _ (s : System) (run : Runnable s) (flags : List Bool) (all values : List ℕ) (right : Flags s.terms flags) (lf : length flags ≡ 64) (lv : length values ≡ 64) (known : Known false flags all values) where
+module _ (s : System) (run : Runnable s) (all values : List ℕ) (lv : length values ≡ 64) (known : Known false s.terms all values) where
   claim_value : (t : ℕ) → t < length s.terms → contains_input s t ≡ false → get_or values t 0 ≡ get_or all t 0
   claim_value t h e =
       let few = within (length s.terms) 64 run.few.terms in
-      known t (omega (arith, few)) (λ q. unlike (sym e ∙ (sym (right t (omega (arith, few))) ∙ q)))
+      known t (omega (arith, few)) (λ q. unlike (sym e ∙ q))
 
   claim_same : (n : ℕ) (e : Equation) → obeys_at s n (Record.Claim e) ≡ true → equal values e ≡ equal all e
   claim_same n e o =
@@ -52,29 +47,28 @@ module _ (s : System) (run : Runnable s) (flags : List Bool) (all values : List 
   claims_same = map_each (λ n e. obeys_at s n (Record.Claim e)) (equal values) (equal all) claim_same 0 s.claims run.claims
 
 -- the judgement
-pub judged : (m : Meaning) (s : System) (place : Place) (c : Configuration) (flags claims : List Bool) (values : List ℕ) (f : ℕ) (r : Bool) → Runnable s → Holds place c → Flags s.terms flags → length flags ≡ 64 → length values ≡ 64 → Known false flags (term_values m place.readings [] s.terms) values → length claims ≡ 4 → Filled false claims (answers values s.claims) → r ≡ get_or (truths place.bits [] claims s.formulas) f false → r ≡ get_or (truths c.bits [] (answers (term_values m c.readings [] s.terms) s.claims) s.formulas) f false
-judged m s place c flags claims values f r run holds right lf lv known lc filled is =
+pub judged : (m : Meaning) (s : System) (place : Place) (c : Configuration) (claims : List Bool) (values : List ℕ) (f : ℕ) (r : Bool) → Runnable s → Holds place c → length values ≡ 64 → Known false s.terms (term_values m place.readings [] s.terms) values → Same false claims (answers values s.claims) → r ≡ get_or (truths place.bits [] claims s.formulas) f false → r ≡ get_or (truths c.bits [] (answers (term_values m c.readings [] s.terms) s.claims) s.formulas) f false
+judged m s place c claims values f r run holds lv known same is =
     let all = term_values m place.readings [] s.terms in
-    let same : Same false claims (answers values s.claims) = filled-same false claims (answers values s.claims) filled (omega (arith, within (length s.claims) 4 run.few.claims, length-map s.claims (equal values))) in
-    let claims_are : answers values s.claims ≡ answers (term_values m c.readings [] s.terms) s.claims = claims_same s run flags all values right lf lv known ∙ ap (λ v. answers v s.claims) (values_same m place.readings c.readings [] holds.readings s.terms) in
+    let claims_are : answers values s.claims ≡ answers (term_values m c.readings [] s.terms) s.claims = claims_same s run all values lv known ∙ ap (λ v. answers v s.claims) (values_same m place.readings c.readings [] holds.readings s.terms) in
     let ok : Same false claims (answers (term_values m c.readings [] s.terms) s.claims) = λ k. same k ∙ ap (λ l. get_or l k false) claims_are in
     is ∙ ap (λ l. get_or l f false) (truths-same place.bits c.bits [] [] claims (answers (term_values m c.readings [] s.terms) s.claims) holds.bits (λ k. refl) ok s.formulas)
 
 -- what is known without inputs is known with any
-pub known_with : (m : Meaning) (s : System) (readings inputs : List ℕ) (flags : List Bool) (values : List ℕ) → Flags s.terms flags → length flags ≡ length values → Known false flags (term_values m readings [] s.terms) values → Known false flags (term_values m readings inputs s.terms) values
-known_with m s readings inputs flags values right l known k h due =
-    known k h due ∙ plain-same m readings [] inputs s.terms k (sym (right k (omega arith)) ∙ not_due (get_or flags k false) due)
+pub known_with : (m : Meaning) (s : System) (readings inputs values : List ℕ) → Known false s.terms (term_values m readings [] s.terms) values → Known false s.terms (term_values m readings inputs s.terms) values
+known_with m s readings inputs values known k h due =
+    known k h due ∙ plain-same m readings [] inputs s.terms k (not_due (input_at (term_infos s.terms) k) due)
 
 -- the step
-module _ (m : Meaning) (s : System) (place : Place) (c : Configuration) (inputs : List ℕ) (few : Few s) (holds : Holds place c) (flags : List Bool) (values : List ℕ) (lv : length values ≡ 64) (known : Known true flags (term_values m place.readings inputs s.terms) values) where
+module _ (m : Meaning) (s : System) (place : Place) (c : Configuration) (inputs : List ℕ) (few : Few s) (holds : Holds place c) (values : List ℕ) (lv : length values ≡ 64) (known : Known true s.terms (term_values m place.readings inputs s.terms) values) where
   values_are : Same 0 values (step_values m s c inputs)
   values_are k =
       filled-same 0 values (term_values m place.readings inputs s.terms) (λ j h. known j h (λ _. refl)) (omega (arith, within (length s.terms) 64 few.terms, grow-length (term_value m place.readings inputs) [] s.terms)) k ∙ ap (λ l. get_or l k 0) (values_same m place.readings c.readings inputs holds.readings s.terms)
 
-  module _ (questions ts : List Bool) (ks : List ℕ) (lq : length questions ≡ 6) (fq : Filled false questions (answers values s.questions)) (lt : length ts ≡ 64) (ft : Filled false ts (truths place.bits questions [] s.formulas)) (lk : length ks ≡ 64) (fk : Filled 0 ks (chosen (λ f. get_or ts f false) s.choices)) where
+  module _ (questions ts : List Bool) (ks : List ℕ) (fq : Same false questions (answers values s.questions)) (lt : length ts ≡ 64) (ft : Filled false ts (truths place.bits questions [] s.formulas)) (lk : length ks ≡ 64) (fk : Filled 0 ks (chosen (λ f. get_or ts f false) s.choices)) where
     questions_are : Same false questions (answers (step_values m s c inputs) s.questions)
     questions_are k =
-        filled-same false questions (answers values s.questions) fq (omega (arith, within (length s.questions) 6 few.questions, length-map s.questions (equal values))) k ∙ ap (λ l. get_or l k false) (answers-same values (step_values m s c inputs) values_are s.questions)
+        fq k ∙ ap (λ l. get_or l k false) (answers-same values (step_values m s c inputs) values_are s.questions)
 
     truths_are : Same false ts (step_truths m s c inputs)
     truths_are k =
@@ -84,10 +78,10 @@ module _ (m : Meaning) (s : System) (place : Place) (c : Configuration) (inputs 
     chosen_are k =
         filled-same 0 ks (chosen (λ f. get_or ts f false) s.choices) fk (omega (arith, within (length s.choices) 64 few.choices, grow-length (term_of_choice (λ f. get_or ts f false)) [] s.choices)) k ∙ ap (λ l. get_or l k 0) (chosen-same (λ f. get_or ts f false) (λ f. get_or (step_truths m s c inputs) f false) truths_are s.choices)
 
-    pub stepped : (next : Place) → length next.bits ≡ 16 → length next.readings ≡ 6 → Filled false next.bits (numbered (λ n b. or_kept (λ f. get_or ts f false) (get_or place.bits n false) b.next) 0 s.bits) → Filled 0 next.readings (numbered (λ n r. or_kept (λ k. get_or values (get_or ks k 0) 0) (get_or place.readings n 0) r.next) 0 s.readings) → Holds next (step m s c inputs)
-    stepped next lb lr fb fr =
+    pub stepped : (next : Place) → Same false next.bits (numbered (λ n b. or_kept (λ f. get_or ts f false) (get_or place.bits n false) b.next) 0 s.bits) → Same 0 next.readings (numbered (λ n r. or_kept (λ k. get_or values (get_or ks k 0) 0) (get_or place.readings n 0) r.next) 0 s.readings) → Holds next (step m s c inputs)
+    stepped next fb fr =
         let bit : ℕ → Bit → Bool = λ n b. or_kept (λ f. get_or ts f false) (get_or place.bits n false) b.next in
         let reading : ℕ → Reading → ℕ = λ n r. or_kept (λ k. get_or values (get_or ks k 0) 0) (get_or place.readings n 0) r.next in
         let bits_are = numbered-same bit (next_bit m s c inputs) (λ n b. or_kept_same (λ f. get_or ts f false) (λ f. get_or (step_truths m s c inputs) f false) (get_or place.bits n false) (get_or c.bits n false) truths_are (holds.bits n) b.next) 0 s.bits in
         let readings_are = numbered-same reading (next_reading m s c inputs) (λ n r. or_kept_same (λ k. get_or values (get_or ks k 0) 0) (λ k. get_or (step_values m s c inputs) (get_or (step_chosen m s c inputs) k 0) 0) (get_or place.readings n 0) (get_or c.readings n 0) (λ k. values_are (get_or ks k 0) ∙ ap (λ j. get_or (step_values m s c inputs) j 0) (chosen_are k)) (holds.readings n) r.next) 0 s.readings in
-        record { bits = λ k. filled-same false next.bits (numbered bit 0 s.bits) fb (omega (arith, within (length s.bits) 16 few.bits, numbered-length bit 0 s.bits)) k ∙ ap (λ l. get_or l k false) bits_are; readings = λ k. filled-same 0 next.readings (numbered reading 0 s.readings) fr (omega (arith, within (length s.readings) 6 few.readings, numbered-length reading 0 s.readings)) k ∙ ap (λ l. get_or l k 0) readings_are }
+        record { bits = λ k. fb k ∙ ap (λ l. get_or l k false) bits_are; readings = λ k. fr k ∙ ap (λ l. get_or l k 0) readings_are }

@@ -1,23 +1,21 @@
--- The flags of terms, and their values pass by pass.
-use Rattle.std.proofs.Common.{◌≡◌, ℕ, suc, ◌+◌, ◌-◌, ◌<◌, ◌≤◌, Bool, true, false, ◌||◌, eqb, ltb, List, [], ◌∷◌, map, length, get_or, take, set, sym, refl, ap, ◌∙◌, ap₂, ⊎_elim, arith, length-set, length-take}
-use mathlib.Core.Bool.{beq}
+-- The values of terms, pass by pass.
+use Rattle.std.proofs.Common.{◌≡◌, ℕ, suc, ◌+◌, ◌-◌, ◌<◌, ◌≤◌, Bool, true, false, ◌||◌, eqb, ltb, List, [], ◌∷◌, map, length, get_or, take, set, vec_items, sym, refl, ap, ◌∙◌, ap₂, ⊎_elim, arith, length-set, length-take}
+use mathlib.Core.Bool.{beq, Bool-set}
+use mathlib.Core.Logic.{∥∥₁_elim}
 use lib.ListN.{length-map}
 use Rattle.std.proofs.lemmas.List.{get_or-set_same, get_or-set_other, get_or_past, get_or-take, get_or-map}
 use Rattle.std.proofs.lemmas.Bool.Decides.{eqb_tells, leb_tells}
+use Rattle.sheet.specs.declared.parts.Parts.{Parts}
 use Rattle.sheet.specs.declared.syntax.Args.{Args}
 use Rattle.sheet.specs.declared.syntax.Args.TheVariants.{Zero, One, Two, Three}
 use Rattle.sheet.specs.declared.syntax.Term.{Term}
 use Rattle.sheet.specs.declared.syntax.TermEntry.{TermEntry}
 use Rattle.sheet.specs.declared.syntax.TermInfo.{TermInfo}
-use Rattle.sheet.specs.Stored.{term_in}
+use Rattle.sheet.specs.Stored.{term_in, term_info_in, Informed}
 use Rattle.sheet.specs.Rules.{no_info, input_at, args_info, term_info, term_infos}
 use Rattle.sheet.specs.Truth.{Meaning, arg_values, term_value, term_values}
 use Rattle.sheet.proofs.Growing.{grow_at, grow-length}
-use Rattle.bench.specs.Values.{args_input, term_input, Due, Known}
-
--- two lists that agree below k agree everywhere once they are cut off there
-pub cut_agree : {X Y V : Type 0} (f : X → V) (g : Y → V) (xs : List X) (ys : List Y) (d : X) (e : Y) (k : ℕ) → f d ≡ g e → ((a : ℕ) → a < k → f (get_or xs a d) ≡ g (get_or ys a e)) → (a : ℕ) → f (get_or (take k xs) a d) ≡ g (get_or (take k ys) a e)
-cut_agree f g xs ys d e k p h a = ⊎_elim (λ (t : (ltb a k ≡ true) × (a < k)). ap f (get_or-take k xs a d t.1) ∙ (h a t.1 ∙ sym (ap g (get_or-take k ys a e t.1)))) (λ (t : (ltb a k ≡ false) × (k < suc a)). ap f (get_or_past (take k xs) a d (omega (arith, length-take k xs, t.1))) ∙ (p ∙ sym (ap g (get_or_past (take k ys) a e (omega (arith, length-take k ys, t.1)))))) (leb_tells (suc a) k)
+use Rattle.bench.specs.Values.{Due, Known}
 
 -- what is there, and one more
 pub set_more : {V : Type 0} (P : ℕ → V → Type 0) (xs : List V) (k : ℕ) (v d : V) → k < length xs → P k v → (j : ℕ) → (j < k → P j (get_or xs j d)) → j < k + 1 → P j (get_or (set xs k v) j d)
@@ -26,36 +24,12 @@ set_more P xs k v d inside new j old h = ⊎_elim (λ (t : (eqb j k ≡ true) ×
     at_k : j ≡ k → P j (get_or (set xs k v) j d)
     at_k e = rw e (rw (get_or-set_same xs k v d inside) new)
 
-args_flag : (flags : List Bool) (infos : List TermInfo) → ((a : ℕ) → get_or flags a false ≡ input_at infos a) → (args : Args) → args_input flags args ≡ (args_info infos args).has_input
-args_flag flags infos h Zero = refl
-args_flag flags infos h (One a) = h a
-args_flag flags infos h (Two a b) = ap₂ ◌||◌ (h a) (h b)
-args_flag flags infos h (Three a b c) = ap₂ ◌||◌ (h a) (ap₂ ◌||◌ (h b) (h c))
-
-term_flag : (flags : List Bool) (infos : List TermInfo) → ((a : ℕ) → get_or flags a false ≡ input_at infos a) → (t : Term) → term_input flags t ≡ (term_info infos t).has_input
-term_flag flags infos h (Term.Reading r) = refl
-term_flag flags infos h (Term.Input i) = refl
-term_flag flags infos h (Term.Apply f args) = args_flag flags infos h args
-
-abbrev pub no_term : TermEntry
-no_term = record { term = Term.Reading 0; info = no_info }
-
 abbrev has_input_in : TermInfo → Bool
 has_input_in i = i.has_input
 
--- the flag of a term from those before it, and of no term
-pub flag_at : (entries : List TermEntry) (flags : List Bool) (k : ℕ) (v : Bool) → k < length entries → v ≡ term_input (take (k - 0) flags) (term_in (get_or entries k no_term)) → ((j : ℕ) → j < k → get_or flags j false ≡ input_at (term_infos (map term_in entries)) j) → v ≡ input_at (term_infos (map term_in entries)) k
-flag_at entries flags k v inside part old =
-    let z : k - 0 ≡ k = omega arith in
-    let is = rw z at part in
-    let infos = term_infos (map term_in entries) in
-    let i : k < length (map term_in entries) = omega (arith, length-map entries term_in) in
-    let at = grow_at term_info (map term_in entries) k no_info (Term.Reading 0) i in
-    let t = get_or-map term_in entries k no_term (Term.Reading 0) inside in
-    is ∙ (term_flag (take k flags) (take k infos) (cut_agree (λ (x : Bool). x) has_input_in flags infos false no_info k refl old) (term_in (get_or entries k no_term)) ∙ (ap (λ x. (term_info (take k infos) x).has_input) (sym t) ∙ ap has_input_in (sym at)))
-
-pub flag_past : (entries : List TermEntry) (k : ℕ) → length entries ≤ k → false ≡ input_at (term_infos (map term_in entries)) k
-flag_past entries k h = ap has_input_in (sym (get_or_past (term_infos (map term_in entries)) k no_info (omega (arith, grow-length term_info [] (map term_in entries), length-map entries term_in))))
+-- what is stored with a term says whether an input stands in it
+pub informed_at : (p : Parts) → ∥ Informed p ∥₁ → (k : ℕ) (e : TermEntry) → k < length (vec_items p.terms) → e ≡ get_or (vec_items p.terms) k e → e.info.has_input ≡ input_at (term_infos (map term_in (vec_items p.terms))) k
+informed_at p h k e l got = ∥∥₁_elim h (Bool-set _ _) (λ i. ap (λ (x : TermEntry). x.info.has_input) got ∙ (ap has_input_in (sym (get_or-map term_info_in (vec_items p.terms) k e no_info l)) ∙ ap (λ x. input_at x k) i.terms))
 
 pub unlike : {A : Type 0} → ◌≡◌ {A = Bool} false true → A
 unlike e = let z : ◌≡◌ {A = ℕ} 0 1 = cc in absurd (omega arith)
@@ -101,18 +75,16 @@ module _ (m : Meaning) (readings inputs : List ℕ) (entries : List TermEntry) w
   infos = term_infos (map term_in entries)
 
   -- a value that is worked out from those before it
-  pub value_at : (late : Bool) (flags : List Bool) (values : List ℕ) (k v : ℕ) → k < length entries → ((j : ℕ) → j < k + 1 → get_or flags j false ≡ input_at (term_infos (map term_in entries)) j) → Due late (get_or flags k false) → v ≡ term_value m readings inputs (take (k - 0) values) (term_in (get_or entries k no_term)) → ((j : ℕ) → j < k → Due late (get_or flags j false) → get_or values j 0 ≡ get_or (term_values m readings inputs (map term_in entries)) j 0) → v ≡ get_or (term_values m readings inputs (map term_in entries)) k 0
+  pub value_at : (late : Bool) (values : List ℕ) (k v : ℕ) (e : TermEntry) → k < length entries → e ≡ get_or entries k e → Due late (input_at (term_infos (map term_in entries)) k) → v ≡ term_value m readings inputs (take k values) e.term → ((j : ℕ) → j < k → Due late (input_at (term_infos (map term_in entries)) j) → get_or values j 0 ≡ get_or (term_values m readings inputs (map term_in entries)) j 0) → v ≡ get_or (term_values m readings inputs (map term_in entries)) k 0
   unfolding all infos
-  value_at late flags values k v inside right due part old =
-      let z : k - 0 ≡ k = omega arith in
-      let is = rw z at part in
+  value_at late values k v e inside got due part old =
       let i : k < length (map term_in entries) = omega (arith, length-map entries term_in) in
       let at = grow_at (term_value m readings inputs) (map term_in entries) k 0 (Term.Reading 0) i in
       let about = grow_at term_info (map term_in entries) k no_info (Term.Reading 0) i in
-      let x = get_or-map term_in entries k no_term (Term.Reading 0) inside in
-      let due' : Due late (term_info (take k infos) (term_in (get_or entries k no_term))).has_input = λ e. due (right k (omega arith) ∙ (ap has_input_in about ∙ (ap (λ y. (term_info (take k infos) y).has_input) x ∙ e))) in
-      let agree = cut_due late infos values all k (λ a h d. old a h (λ e. d (sym (right a (omega arith)) ∙ e))) in
-      is ∙ (term_known late (take k infos) (take k values) (take k all) agree m readings inputs (term_in (get_or entries k no_term)) due' ∙ (ap (term_value m readings inputs (take k all)) (sym x) ∙ sym at))
+      let x : get_or (map term_in entries) k (Term.Reading 0) ≡ e.term = get_or-map term_in entries k e (Term.Reading 0) inside ∙ ap term_in (sym got) in
+      let due' : Due late (term_info (take k infos) e.term).has_input = λ q. due (ap has_input_in about ∙ (ap (λ y. (term_info (take k infos) y).has_input) x ∙ q)) in
+      let agree = cut_due late infos values all k old in
+      part ∙ (term_known late (take k infos) (take k values) (take k all) agree m readings inputs e.term due' ∙ (ap (term_value m readings inputs (take k all)) (sym x) ∙ sym at))
 
   pub value_past : (k : ℕ) → length entries ≤ k → 0 ≡ get_or (term_values m readings inputs (map term_in entries)) k 0
   value_past k h = sym (get_or_past (term_values m readings inputs (map term_in entries)) k 0 (omega (arith, grow-length (term_value m readings inputs) [] (map term_in entries), length-map entries term_in)))
@@ -125,16 +97,16 @@ set_right values all k v is j old inside = ⊎_elim (λ (t : (eqb j k ≡ true) 
     at_k e = let l : k < length values = omega arith in rw e (get_or-set_same values k v 0 l ∙ is)
 
 -- the terms below n that are due are right
-abbrev pub Past : Bool → List Bool → List ℕ → ℕ → List ℕ → Type 0
-Past late flags all n values = (j : ℕ) → j < n → Due late (get_or flags j false) → get_or values j 0 ≡ get_or all j 0
+abbrev pub Past : Bool → List Term → List ℕ → ℕ → List ℕ → Type 0
+Past late terms all n values = (j : ℕ) → j < n → Due late (input_at (term_infos terms) j) → get_or values j 0 ≡ get_or all j 0
 
 -- one turn of a pass: a term of the pass is worked out, and of the others the late pass knows the value
-module _ (late : Bool) (flags : List Bool) (all values now : List ℕ) (k : ℕ) (inside : k < length values) (past : Past late flags all k values) (early : late ≡ true → Known false flags all values) where
-  pub pass_new : (v : ℕ) → now ≡ set values k v → v ≡ get_or all k 0 → Past late flags all (k + 1) now × (late ≡ true → Known false flags all now)
+module _ (late : Bool) (terms : List Term) (all values now : List ℕ) (k : ℕ) (inside : k < length values) (past : Past late terms all k values) (early : late ≡ true → Known false terms all values) where
+  pub pass_new : (v : ℕ) → now ≡ set values k v → v ≡ get_or all k 0 → Past late terms all (k + 1) now × (late ≡ true → Known false terms all now)
   pass_new v e is =
-      rw e ((λ j h due. set_more (λ j x. Due late (get_or flags j false) → x ≡ get_or all j 0) values k v 0 inside (λ _. is) j (past j) h due), λ l j h due. let h' : j < length values = omega (arith, length-set values k v) in set_right values all k v is j (early l j h' due) h')
+      rw e ((λ j h due. set_more (λ j x. Due late (input_at (term_infos terms) j) → x ≡ get_or all j 0) values k v 0 inside (λ _. is) j (past j) h due), λ l j h due. let h' : j < length values = omega (arith, length-set values k v) in set_right values all k v is j (early l j h' due) h')
 
-  pub pass_over : now ≡ values → (get_or flags k false ≡ late → ⊥) → Past late flags all (k + 1) now × (late ≡ true → Known false flags all now)
+  pub pass_over : now ≡ values → (input_at (term_infos terms) k ≡ late → ⊥) → Past late terms all (k + 1) now × (late ≡ true → Known false terms all now)
   pass_over e other = rw e (over, early)
     where
       by_flag : (l f : Bool) → (f ≡ l → ⊥) → Due l f → (l ≡ true) × (f ≡ false)
@@ -143,12 +115,12 @@ module _ (late : Bool) (flags : List Bool) (all values now : List ℕ) (k : ℕ)
       by_flag false true o d = unlike (d refl)
       by_flag false false o d = absurd (o refl)
 
-      over : Past late flags all (k + 1) values
+      over : Past late terms all (k + 1) values
       over j h due = ⊎_elim (λ (t : (eqb j k ≡ true) × (j ≡ k)). at_k t.1) (λ (t : (eqb j k ≡ false) × (j ≡ k → ⊥)). past j (omega (arith, t.1)) due) (eqb_tells j k)
         where
           at_k : j ≡ k → get_or values j 0 ≡ get_or all j 0
           at_k e =
-              let b = by_flag late (get_or flags j false) (λ q. other (ap (λ i. get_or flags i false) (sym e) ∙ q)) due in
+              let b = by_flag late (input_at (term_infos terms) j) (λ q. other (ap (λ i. input_at (term_infos terms) i) (sym e) ∙ q)) due in
               early b.0 j (omega arith) (λ t. unlike (sym b.1 ∙ t))
 
 -- a test of two flags

@@ -1,5 +1,5 @@
 -- A run, configuration by configuration.
-use Rattle.std.proofs.Common.{◌≡◌, ℕ, suc, ◌+◌, ◌*◌, ◌<◌, ◌≤◌, Bool, true, false, eqb, List, Some, None, sym, ap, ◌∙◌, ⊎_elim, mul-le-mul_right, add-mul, one-mul, add-one, arith, below_more}
+use Rattle.std.proofs.Common.{◌≡◌, ℕ, suc, ◌+◌, ◌*◌, ◌<◌, ◌≤◌, Bool, true, false, eqb, List, length, Some, None, sym, ap, ◌∙◌, ap₂, subst, ⊎_elim, mul-le-mul_right, add-mul, one-mul, add-one, arith, below_more, leb-true}
 use mathlib.Core.Bool.{Bool-set}
 use mathlib.Core.Logic.{∥∥₁_elim}
 use Rattle.std.proofs.lemmas.Bool.Decides.{eqb_tells}
@@ -26,19 +26,28 @@ module _ (m : Meaning) (s : System) (starts inputs : List ℕ) where
   pub reached_start : (place : Place) → Holds place (start m s starts) → Reached m s starts inputs 0 place
   reached_start place h = record { here = h; before = λ j l. absurd (omega arith) }
 
-  pub reached_next : (i : ℕ) (place next : Place) (r : Bool) → Reached m s starts inputs i place → r ≡ true → ((c : Configuration) → Holds place c → r ≡ invariant_holds m s c) → ((c : Configuration) → Holds place c → Holds next (step m s c (inputs_of s inputs i))) → Reached m s starts inputs (i + 1) next
-  reached_next i place next r at t judge go =
-      let moved : Holds next (after m s starts inputs (suc i)) = go (after m s starts inputs i) at.here in
-      let one : i + 1 ≡ suc i = add-one i in
-      record { here = rw one moved; before = below_more (λ j. invariant_holds m s (after m s starts inputs j) ≡ true) i at.before (sym (judge (after m s starts inputs i) at.here) ∙ t) }
+  -- a judgement by the same meaning, which leaves the place as it was
+  module _ (i : ℕ) (place now : Place) (r : Bool) (f : Meaning) (at : Reached m s starts inputs i place) (same : now ≡ place) (kept : f ≡ m) (judge : (c : Configuration) → Holds place c → r ≡ invariant_holds f s c) where
+    judged : r ≡ invariant_holds m s (after m s starts inputs i)
+    judged = judge (after m s starts inputs i) at.here ∙ ap (λ (x : Meaning). invariant_holds x s (after m s starts inputs i)) kept
 
-  pub ran_break : (i n : ℕ) (place : Place) (r : Bool) → i ≤ n → Reached m s starts inputs i place → r ≡ false → ((c : Configuration) → Holds place c → r ≡ invariant_holds m s c) → Ran m s starts inputs n (Some i) place
-  ran_break i n place r h at t judge =
-      record { first = record { within = h; broken = sym (judge (after m s starts inputs i) at.here) ∙ t; before = at.before }; last = at.here }
+    still : Holds now (after m s starts inputs i)
+    still = rw same at.here
 
-  pub ran_none : (n : ℕ) (place : Place) (r : Bool) → Reached m s starts inputs n place → r ≡ true → ((c : Configuration) → Holds place c → r ≡ invariant_holds m s c) → Ran m s starts inputs n None place
-  ran_none n place r at t judge =
-      record { first = λ j h. ⊎_elim (λ (q : (eqb j n ≡ true) × (j ≡ n)). ap (λ i. invariant_holds m s (after m s starts inputs i)) q.1 ∙ (sym (judge (after m s starts inputs n) at.here) ∙ t)) (λ (q : (eqb j n ≡ false) × (j ≡ n → ⊥)). at.before j (omega (arith, q.1))) (eqb_tells j n); last = at.here }
+    pub reached_next : (next : Place) (g : Meaning) (given : List ℕ) → r ≡ true → g ≡ m → given ≡ inputs_of s inputs i → ((c : Configuration) → Holds now c → Holds next (step g s c given)) → Reached m s starts inputs (i + 1) next
+    reached_next next g given t k e go =
+        let c = after m s starts inputs i in
+        let moved : Holds next (after m s starts inputs (suc i)) = subst (λ (x : Configuration). Holds next x) (ap₂ (λ (x : Meaning) (l : List ℕ). step x s c l) k e) (go c still) in
+        let one : i + 1 ≡ suc i = add-one i in
+        record { here = rw one moved; before = below_more (λ j. invariant_holds m s (after m s starts inputs j) ≡ true) i at.before (sym judged ∙ t) }
+
+    pub ran_break : (n j : ℕ) → j ≡ i → i ≤ n → r ≡ false → Ran m s starts inputs n (Some j) now
+    ran_break n j e h t =
+        rw e (record { first = record { within = h; broken = sym judged ∙ t; before = at.before }; last = still })
+
+    pub ran_none : (n : ℕ) → n ≡ i → r ≡ true → Ran m s starts inputs n None now
+    ran_none n e t =
+        rw e (record { first = λ j h. ⊎_elim (λ (q : (eqb j i ≡ true) × (j ≡ i)). ap (λ k. invariant_holds m s (after m s starts inputs k)) q.1 ∙ (sym judged ∙ t)) (λ (q : (eqb j i ≡ false) × (j ≡ i → ⊥)). at.before j (omega (arith, q.1))) (eqb_tells j i); last = still })
 
 -- what a run leans on, of a lawful sheet
 module _ (s : System) (lawful : ∥ Lawful s ∥₁) where
@@ -51,3 +60,13 @@ module _ (s : System) (lawful : ∥ Lawful s ∥₁) where
         few = record { bits = of _ (λ l. l.few.bits); symbols = of _ (λ l. l.few.symbols); readings = of _ (λ l. l.few.readings); inputs = of _ (λ l. l.few.inputs); terms = of _ (λ l. l.few.terms); questions = of _ (λ l. l.few.questions); claims = of _ (λ l. l.few.claims); formulas = of _ (λ l. l.few.formulas); choices = of _ (λ l. l.few.choices) };
         claims = of _ (λ l. l.each.claims);
       }
+
+  -- how many there are at most
+  pub few_readings : length s.readings ≤ 6
+  few_readings = leb-true (length s.readings) 6 runnable.few.readings
+
+  pub few_questions : length s.questions ≤ 6
+  few_questions = leb-true (length s.questions) 6 runnable.few.questions
+
+  pub few_claims : length s.claims ≤ 4
+  few_claims = leb-true (length s.claims) 4 runnable.few.claims

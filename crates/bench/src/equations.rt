@@ -1,26 +1,32 @@
 //! The answers to questions and claims.
-ghost use Rattle.std.specs.Prelude.{◌≡◌, false};
+ghost use Rattle.std.specs.Prelude.{◌≡◌, ◌≤◌, false, length, slice_index_or};
 ghost use Rattle.sheet.specs.Truth.{equal, answers};
-ghost use Rattle.bench.specs.Values.{Filled};
+ghost use Rattle.bench.specs.Outcome.{Same};
 
-use crate::places::at_or;
+use crate::places::value_at;
 use sheet::Equation;
+use std::array;
 
 fn is_equal(equation: Equation, values: &[u32]) -> bool
     ensures { result ≡ equal values.now equation }
 {
-    at_or(values, equation.left, 0) == at_or(values, equation.right, 0)
+    value_at(values, equation.left) == value_at(values, equation.right)
 }
 
-/// Whether the two terms of each equation that has a place in `out` are equal.
-pub(crate) fn answer(equations: &[Equation], values: &[u32], out: &mut [bool])
-    ensures { Filled false out.new (answers values.now equations.now) }
+// The answer to equation n, and false past the last.
+fn answer_at(equations: &[Equation], values: &[u32], n: usize) -> bool
+    ensures { result ≡ slice_index_or (answers values.now equations.now) n false }
 {
-    for k in 0..out.len() {
-        out[k] = if k < equations.len() {
-            is_equal(equations[k], values)
-        } else {
-            false
-        };
+    match equations.get(n) {
+        Some(equation) => is_equal(*equation, values),
+        None => false,
     }
+}
+
+/// Whether the two terms of each equation are equal; past the equations all are false.
+pub(crate) fn answer<const N: usize>(equations: &[Equation], values: &[u32]) -> [bool; N]
+    requires { length equations.now ≤ N }
+    ensures { Same false result (answers values.now equations.now) }
+{
+    array::from_fn(|n| answer_at(equations, values, n))
 }

@@ -2,13 +2,12 @@
 //! to the model; the modules below it work out values, judge a configuration and take a step.
 #![tactic(auto)]
 
-mod bits;
 pub mod configuration;
+mod current;
 mod equations;
 mod places;
 mod readings;
 mod running;
-mod steps;
 mod terms;
 
 pub use configuration::Configuration;

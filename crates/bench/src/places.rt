@@ -1,10 +1,9 @@
-//! What a slice has at a number.
-ghost use Rattle.std.specs.Prelude.{◌≡◌, slice_index_or};
+//! What a list of values has at a number.
+ghost use Rattle.std.specs.Prelude.{◌≡◌, slice_index};
 
-/// The element of that number; past the end the default.
-pub(crate) fn at_or<T: Copy>(xs: &[T], number: u8, default: T) -> T
-    ensures { result ≡ slice_index_or xs.now number default }
+/// The value of that number; past the end 0.
+pub(crate) fn value_at(values: &[u32], number: u8) -> u32
+    ensures { result ≡ slice_index values.now number }
 {
-    let n = number as usize;
-    if n < xs.len() { xs[n] } else { default }
+    values.get(number as usize).copied().unwrap_or(0)
 }

@@ -1,61 +1,67 @@
 //! The readings of a configuration.
 ghost use Rattle.std.specs.Prelude.{◌≡◌, map, slice_index};
 ghost use Rattle.sheet.specs.Runs.{start_value, start_reading, or_kept, numbered};
-ghost use Rattle.bench.specs.Values.{Filled};
+ghost use Rattle.sheet.specs.View.{sheet_of};
+ghost use Rattle.bench.specs.Outcome.{Same};
+ghost use Rattle.bench.specs.Values.{Kept};
 
-use crate::places::at_or;
+use crate::places::value_at;
 use plant::Model;
-use sheet::{Reading, Start};
+use sheet::{Reading, Sheet, Start};
+use std::array;
 
 fn start_value<M: Model>(model: &mut M, start: Start, starts: &[u32]) -> u32
     ensures answer { result ≡ start_value (M.meaning model.old) starts.now start }
-    ensures kept { M.meaning model.new ≡ M.meaning model.old }
-    ensures lent { M.lenders model.new ≡ M.lenders model.old }
+    ensures kept { Kept M.meaning M.lenders model.old model.new }
 {
     match start {
-        Start::Name(name) => at_or(starts, name, 0),
+        Start::Name(name) => value_at(starts, name),
         Start::Constant(symbol) => model.apply(symbol, &[]),
     }
 }
 
-/// Starts every reading. The constants are asked of the model reading by reading.
-pub(crate) fn start_readings<M: Model>(
-    model: &mut M,
-    readings: &[Reading],
-    starts: &[u32],
-    out: &mut [u32],
-)
-    ensures values { Filled 0 out.new (map (start_reading (M.meaning model.old) starts.now) readings.now) }
-    ensures kept { M.meaning model.new ≡ M.meaning model.old }
-    ensures lent { M.lenders model.new ≡ M.lenders model.old }
+/// The start of every reading; past the sheet's readings all are 0. The constants are asked of the model
+/// reading by reading.
+pub(crate) fn start_readings<M: Model>(sheet: &Sheet, model: &mut M, starts: &[u32]) -> [u32; 6]
+    ensures values { Same 0 result (map (start_reading (M.meaning model.old) starts.now) (sheet_of sheet.now).readings) }
+    ensures kept { Kept M.meaning M.lenders model.old model.new }
 {
-    for k in 0..out.len() {
-        out[k] = if k < readings.len() {
-            start_value(model, readings[k].start, starts)
-        } else {
-            0
+    let readings = sheet.parts.readings.as_slice();
+    let mut out = [0; 6];
+    for (k, slot) in out.iter_mut().enumerate() {
+        *slot = match readings.get(k) {
+            Some(reading) => start_value(model, reading.start, starts),
+            None => 0,
         };
+    }
+    out
+}
+
+// The next value of a reading that was `old`.
+fn next_of(reading: Reading, old: u32, chosen: &[u8], values: &[u32]) -> u32
+    ensures { result ≡ or_kept (λ k. slice_index values.now (slice_index chosen.now k)) old reading.next }
+{
+    match reading.next {
+        Some(choice) => value_at(values, chosen.get(choice as usize).copied().unwrap_or(0)),
+        None => old,
     }
 }
 
-fn next_reading(next: Option<u8>, kept: u32, chosen: &[u8], values: &[u32]) -> u32
-    ensures { result ≡ or_kept (λ k. slice_index values.now (slice_index chosen.now k)) kept next }
+// The next value of reading n, and 0 past the last.
+fn next_at(readings: &[Reading], old: &[u32], chosen: &[u8], values: &[u32], n: usize) -> u32
+    ensures { result ≡ slice_index (numbered (λ n r. or_kept (λ k. slice_index values.now (slice_index chosen.now k)) (slice_index old.now n) r.next) 0 readings.now) n }
 {
-    match next {
-        None => kept,
-        Some(choice) => at_or(values, at_or(chosen, choice, 0), 0),
+    match readings.get(n) {
+        Some(reading) => next_of(*reading, old.get(n).copied().unwrap_or(0), chosen, values),
+        None => 0,
     }
 }
 
-/// Changes every reading, by the terms that the choices come to.
-pub(crate) fn next_readings(readings: &[Reading], chosen: &[u8], values: &[u32], out: &mut [u32])
-    ensures { Filled 0 out.new (numbered (λ n r. or_kept (λ k. slice_index values.now (slice_index chosen.now k)) (slice_index out.old n) r.next) 0 readings.now) }
+/// The readings after a step from the old ones, by the terms that the choices come to; past the sheet's
+/// readings all are 0.
+pub(crate) fn next_readings(sheet: &Sheet, old: &[u32], chosen: &[u8], values: &[u32]) -> [u32; 6]
+    ensures { Same 0 result (numbered (λ n r. or_kept (λ k. slice_index values.now (slice_index chosen.now k)) (slice_index old.now n) r.next) 0 (sheet_of sheet.now).readings) }
 {
-    for k in 0..out.len() {
-        out[k] = if k < readings.len() {
-            next_reading(readings[k].next, out[k], chosen, values)
-        } else {
-            0
-        };
-    }
+    let readings = sheet.parts.readings.as_slice();
+    array::from_fn(|n| next_at(readings, old, chosen, values, n))
 }

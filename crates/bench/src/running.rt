@@ -1,14 +1,15 @@
 //! Runs. The order of the questions that are put to the model is the order of `carry_out`: the constant
 //! starts, reading by reading; then for each configuration the terms without inputs, before it is judged,
 //! and, where a step follows, the others after it; in both passes each symbol term once, in term order.
-ghost use Rattle.std.specs.Prelude.{◌≡◌, ℕ, ◌+◌, ◌*◌, ◌≤◌, map, length, take, drop, MatchResult};
+ghost use Rattle.std.specs.Prelude.{◌≡◌, ℕ, ◌+◌, ◌*◌, ◌≤◌, length, take, drop, MatchResult};
 ghost use Rattle.sheet.specs.Runs.{FirstBreak};
 ghost use Rattle.sheet.specs.View.{sheet_of};
-ghost use Rattle.bench.specs.Outcome.{Runnable, Ran, Accepted, Refused};
+ghost use Rattle.bench.specs.Outcome.{Ran, Accepted, Refused};
+ghost use Rattle.bench.specs.Values.{Kept};
+ghost use Rattle.fault.specs.declared.Fault.{Fault};
 
 use crate::configuration::Configuration;
-use crate::steps::{advance, begin, judge};
-use crate::terms::flag_inputs;
+use crate::current::Current;
 use fault::{BenchFault, Fault};
 use plant::Model;
 use sheet::Sheet;
@@ -17,17 +18,17 @@ const MOST_STEPS: u32 = 10_000;
 
 const STARTS: usize = 8;
 
-fn accept(sheet: &Sheet, starts: &[u32], n: u32, inputs: &[u32]) -> Result<(), Fault>
-    ensures { MatchResult result (λ _. Accepted (sheet_of sheet.now) starts.now inputs.now n) (λ f. Refused (sheet_of sheet.now) starts.now inputs.now n f) }
+fn accept(sheet: &Sheet, starts: &[u32], n: u32, inputs: &[u32]) -> Result<(), BenchFault>
+    ensures { MatchResult result (λ _. Accepted (sheet_of sheet.now) starts.now inputs.now n) (λ f. Refused (sheet_of sheet.now) starts.now inputs.now n (Fault.Bench f)) }
 {
     if n > MOST_STEPS {
-        return Err(Fault::Bench(BenchFault::TooManySteps));
+        return Err(BenchFault::TooManySteps);
     }
     if inputs.len() != n as usize * sheet.parts.inputs as usize {
-        return Err(Fault::Bench(BenchFault::InputsLength));
+        return Err(BenchFault::InputsLength);
     }
     if starts.len() != STARTS {
-        return Err(Fault::Bench(BenchFault::StartsLength));
+        return Err(BenchFault::StartsLength);
     }
     Ok(())
 }
@@ -41,35 +42,31 @@ fn inputs_of(inputs: &[u32], each: u8, i: u32) -> &[u32]
     &inputs[from..from + each as usize]
 }
 
-// The run itself, which leaves every configuration that it reaches in the place.
+// The run itself: its answer, and the last configuration that it reaches.
 fn carry_out<M: Model>(
     sheet: &Sheet,
     model: &mut M,
     starts: &[u32],
     n: u32,
     inputs: &[u32],
-    place: &mut Configuration,
-) -> Option<u32>
+) -> (Option<u32>, Configuration)
     requires { length inputs.now ≡ n * (sheet_of sheet.now).inputs }
-    ensures ran { Runnable (sheet_of sheet.now) → Ran (M.meaning model.old) (sheet_of sheet.now) starts.now inputs.now n result place.new }
-    ensures kept { M.meaning model.new ≡ M.meaning model.old }
-    ensures lent { M.lenders model.new ≡ M.lenders model.old }
+    ensures ran { Ran (M.meaning model.old) (sheet_of sheet.now) starts.now inputs.now n result.0 result.1 }
+    ensures kept { Kept M.meaning M.lenders model.old model.new }
 {
-    let mut flags = [false; 64];
-    flag_inputs(sheet.parts.terms.as_slice(), &mut flags);
-    let mut values = [0; 64];
-    begin(sheet, model, starts, place);
+    let mut current = Current::begin(sheet, model, starts);
+    // By number, since a sheet may have no inputs, and then there are no parts of them to go over.
     for i in 0..n {
-        if !judge(sheet, model, &flags, place, &mut values) {
-            return Some(i);
+        if !current.judge(sheet, model) {
+            return (Some(i), current.place);
         }
         let given = inputs_of(inputs, sheet.parts.inputs, i);
-        advance(sheet, model, &flags, given, place, &mut values);
+        current.advance(sheet, model, given);
     }
-    if judge(sheet, model, &flags, place, &mut values) {
-        None
+    if current.judge(sheet, model) {
+        (None, current.place)
     } else {
-        Some(n)
+        (Some(n), current.place)
     }
 }
 
@@ -89,7 +86,9 @@ pub fn run_to<M: Model>(
     ensures lent { M.lenders model.new ≡ M.lenders model.old }
 {
     accept(sheet, starts, n, inputs)?;
-    Ok(carry_out(sheet, model, starts, n, inputs, place))
+    let (answer, last) = carry_out(sheet, model, starts, n, inputs);
+    *place = last;
+    Ok(answer)
 }
 
 /// The same without a place for the last configuration.

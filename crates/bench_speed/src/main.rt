@@ -13,8 +13,6 @@ use std::time::Instant;
 
 const STEPS: u32 = 10_000;
 
-const MOST_INPUTS: usize = 4;
-
 const STARTS: [u32; 8] = [1, 2, 3, 4, 5, 6, 7, 8];
 
 static INPUTS: [u32; 40_000] = [3; 40_000];
@@ -44,18 +42,12 @@ static CURVES: [Curve; 3] = [
 ];
 
 fn run_once(sheet: &Sheet) -> anyhow::Result<Option<u32>> {
-    let Ok(mut model) = Affine::new(65_521, &CURVES) else {
-        return Err(anyhow!("no model"));
-    };
-    let each = sheet.parts.inputs as usize;
-    if each > MOST_INPUTS {
+    let mut model = Affine::new(65_521, &CURVES).map_err(|_| anyhow!("no model"))?;
+    let count = sheet.parts.inputs as usize * STEPS as usize;
+    let Some(inputs) = INPUTS.get(..count) else {
         return Err(anyhow!("too many inputs"));
-    }
-    let count = each * STEPS as usize;
-    match run(sheet, &mut model, &STARTS, STEPS, &INPUTS[0..count]) {
-        Ok(answer) => Ok(answer),
-        Err(_) => Err(anyhow!("the run is refused")),
-    }
+    };
+    run(sheet, &mut model, &STARTS, STEPS, inputs).map_err(|_| anyhow!("the run is refused"))
 }
 
 fn print_rate(rt: &HostRuntime, sheet: &Sheet, times: u32) -> anyhow::Result<()> {
@@ -78,9 +70,7 @@ fn measure(rt: &HostRuntime) -> anyhow::Result<()> {
     let mut bytes: Vec<u8> = Vec::new(heap);
     rt.stdin().read_to_end(&mut bytes)?;
     let mut sheet = smallest(heap)?;
-    if read(bytes.as_slice(), heap, &mut sheet).is_err() {
-        return Err(anyhow!("the sheet has a fault"));
-    }
+    read(bytes.as_slice(), heap, &mut sheet).map_err(|_| anyhow!("the sheet has a fault"))?;
     let mut args = env::args(rt)?;
     let _ = args.next();
     if let Some(times) = args.next() {

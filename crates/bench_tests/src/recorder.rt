@@ -3,12 +3,11 @@ ghost use Rattle.std.specs.Prelude.{[]};
 
 use plant::Model as PlantModel;
 
-/// Answers the same value to every question, and keeps the symbols of the first eight.
+/// Answers the same value to every question, and keeps the symbols.
 #[derive(Drop)]
 pub struct Recorder {
     pub value: u32,
-    pub symbols: [u8; 8],
-    pub asked: usize,
+    pub asked: Vec<u8>,
 }
 
 impl PlantModel for Recorder {
@@ -17,10 +16,8 @@ impl PlantModel for Recorder {
     ghost lenders = { λ _. [] };
 
     fn apply(&mut self, symbol: u8, _values: &[u32]) -> u32 {
-        if self.asked < 8 {
-            self.symbols[self.asked] = symbol;
-            self.asked += 1;
-        }
+        // A model never refuses: where memory is wanting, the symbol is left out.
+        let _ = self.asked.push(symbol);
         self.value
     }
 }

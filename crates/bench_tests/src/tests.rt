@@ -223,14 +223,12 @@ fn questions_come_in_their_order(rt: HostRuntime) -> Result<(), Fail> {
     let sheet = sheet_of(rt.alloc(), ASKING)?;
     let mut model = Recorder {
         value: 3,
-        symbols: [99; 8],
-        asked: 0,
+        asked: Vec::new(rt.alloc()),
     };
     let refused = run(&sheet, &mut model, &[], 1, &[1]);
-    assert!(rt; refused == Err(Fault::Bench(BenchFault::StartsLength)) && model.asked == 0);
+    assert_eq!(rt; refused, Err(Fault::Bench(BenchFault::StartsLength)));
+    assert!(rt; model.asked.is_empty());
     assert_eq!(rt; run(&sheet, &mut model, STARTS, 1, &[1])?, None);
-    assert!(rt; model.asked == 4);
-    assert!(rt; model.symbols[0] == 0 && model.symbols[1] == 1);
-    assert!(rt; model.symbols[2] == 2 && model.symbols[3] == 1);
+    assert_eq!(rt; model.asked.as_slice(), [0, 1, 2, 1].as_slice());
     Ok(())
 }

@@ -1,11 +1,12 @@
 //! What is printed of a run: the run file's own words, the answer and the last configuration.
 #![tactic(auto)]
 
-ghost use Rattle.std.specs.Prelude.{◌≡◌, ℕ, ◌≤◌, List, ◌++◌, map, length, take, IfOk, Ok, string_bytes, codes, OnOk};
-ghost use Rattle.bench.specs.Outcome.{last_of};
+ghost use Rattle.std.specs.Prelude.{◌≡◌, ℕ, ◌≤◌, Bool, List, ◌++◌, map, length, take, IfOk, Ok, string_bytes, codes, OnOk};
+ghost use Rattle.bench.specs.Outcome.{Accepted, Ran};
 ghost use Rattle.bench_text.specs.Lines.{spaced, bit_number, plant_line, head_of, answer_line, last_line};
 ghost use Rattle.bench_text.specs.Report.{fault_line, FailureLine, RunText, PlantText, SheetText, Reported};
 ghost use Rattle.run_file.specs.Reading.{plant_of, run_of, run_said};
+ghost use Rattle.sheet.specs.Truth.{Meaning};
 ghost use Rattle.sheet.specs.View.{sheet_of};
 
 use bench::{Configuration, run_to};
@@ -20,34 +21,16 @@ use sheet::Sheet;
 use std::alloc::{AllocError, Global};
 
 // Each number after a space.
-fn push_numbers(heap: Global, text: &mut String, numbers: &[u32]) -> Result<(), AllocError>
+fn push_numbers(text: &mut String, numbers: &[u32]) -> Result<(), AllocError>
     ensures { OnOk result (string_bytes text.new ≡ string_bytes text.old ++ spaced numbers.now) }
 {
     for number in numbers {
-        let n = *number;
-        let word = format!(in heap; " {n}")?;
-        text.push_str(word.as_str())?;
+        write!(text, " {number}")?;
     }
     Ok(())
 }
 
-fn number_of(bit: bool) -> u32
-    ensures { result ≡ bit_number bit }
-{
-    if bit { 1 } else { 0 }
-}
-
-fn push_bits(heap: Global, text: &mut String, bits: &[bool]) -> Result<(), AllocError>
-    ensures { OnOk result (string_bytes text.new ≡ string_bytes text.old ++ spaced (map bit_number bits.now)) }
-{
-    for bit in bits {
-        let n = number_of(*bit);
-        let word = format!(in heap; " {n}")?;
-        text.push_str(word.as_str())?;
-    }
-    Ok(())
-}
-
+// No `Display`, which this crate could give only to a type around the plant, the answer or the failure.
 fn plant_line(heap: Global, plant: &Plant) -> Result<String, AllocError>
     ensures { IfOk result (λ t. string_bytes t ≡ plant_line (plant_of plant.now)) }
 {
@@ -69,12 +52,11 @@ fn head(heap: Global, run: &RunFile) -> Result<String, AllocError>
 {
     let mut text = plant_line(heap, &run.plant)?;
     text.push_str("start")?;
-    push_numbers(heap, &mut text, run.starts.as_slice())?;
+    push_numbers(&mut text, run.starts.as_slice())?;
     text.push_str("\n")?;
     let steps = run.steps;
     let count = run.inputs.len();
-    let last = format!(in heap; "steps {steps} inputs {count}\n")?;
-    text.push_str(last.as_str())?;
+    write!(text, "steps {steps} inputs {count}\n")?;
     Ok(text)
 }
 
@@ -93,86 +75,62 @@ fn answer_line(heap: Global, answer: Option<u32>) -> Result<String, AllocError>
     }
 }
 
-fn last_of(n: u32, answer: Option<u32>) -> u32
-    ensures { result ≡ last_of n answer }
+// The bits are given as numbers.
+fn push_last(text: &mut String, i: u32, bits: &[u32], readings: &[u32]) -> Result<(), AllocError>
+    ensures { OnOk result ((bs : List Bool) → bits.now ≡ map bit_number bs → string_bytes text.new ≡ string_bytes text.old ++ last_line i bs readings.now) }
 {
-    match answer {
-        None => n,
-        Some(i) => i,
-    }
-}
-
-fn last_line(heap: Global, i: u32, bits: &[bool], readings: &[u32]) -> Result<String, AllocError>
-    ensures { IfOk result (λ t. string_bytes t ≡ last_line i bits.now readings.now) }
-{
-    let mut text = format!(in heap; "last {i} bits")?;
-    push_bits(heap, &mut text, bits)?;
+    write!(text, "last {i} bits")?;
+    push_numbers(text, bits)?;
     text.push_str(" readings")?;
-    push_numbers(heap, &mut text, readings)?;
-    text.push_str("\n")?;
-    Ok(text)
+    push_numbers(text, readings)?;
+    text.push_str("\n")
 }
 
-// The answer and the last configuration, of which the sheet has so many bits and readings.
+// The answer of a run of n steps, and as much of the last configuration as the sheet has.
 fn ending(
     heap: Global,
+    sheet: &Sheet,
     n: u32,
     answer: Option<u32>,
-    bits: &[bool],
-    readings: &[u32],
+    last: &Configuration,
 ) -> Result<String, AllocError>
-    ensures { IfOk result (λ t. string_bytes t ≡ answer_line answer ++ last_line (last_of n answer) bits.now readings.now) }
+    ensures { IfOk result (λ t. (m : Meaning) (starts inputs : List ℕ) → Accepted (sheet_of sheet.now) starts inputs n → Ran m (sheet_of sheet.now) starts inputs n answer last.now → RunText m (sheet_of sheet.now) starts inputs n (string_bytes t)) }
 {
+    let bits = last.bits.map(u32::from);
+    let bits = &bits[..sheet.parts.bits.len()];
+    let readings = &last.readings[..sheet.parts.readings.len()];
     let mut text = answer_line(heap, answer)?;
-    let last = last_line(heap, last_of(n, answer), bits, readings)?;
-    text.push_str(last.as_str())?;
+    push_last(&mut text, answer.unwrap_or(n), bits, readings)?;
     Ok(text)
-}
-
-fn front<T>(xs: &[T], n: usize) -> &[T]
-    ensures { result.now ≡ take n xs.now }
-{
-    if n < xs.len() { &xs[0..n] } else { xs }
 }
 
 fn run_text<M: Model>(
     heap: Global,
     sheet: &Sheet,
     model: &mut M,
-    starts: &[u32],
-    n: u32,
-    inputs: &[u32],
+    run: &RunFile,
 ) -> Result<String, AllocError>
-    ensures { IfOk result (λ t. RunText (M.meaning model.old) (sheet_of sheet.now) starts.now inputs.now n (string_bytes t)) }
+    ensures { IfOk result (λ t. RunText (M.meaning model.old) (sheet_of sheet.now) (run_of run.now).starts (run_of run.now).inputs (run_of run.now).steps (string_bytes t)) }
 {
-    let mut place = Configuration::BLANK;
-    match run_to(sheet, model, starts, n, inputs, &mut place) {
-        Ok(answer) => {
-            let bits = front(&place.bits, sheet.parts.bits.len());
-            let readings = front(&place.readings, sheet.parts.readings.len());
-            ending(heap, n, answer, bits, readings)
-        }
+    let starts = run.starts.as_slice();
+    let inputs = run.inputs.as_slice();
+    let mut last = Configuration::BLANK;
+    match run_to(sheet, model, starts, run.steps, inputs, &mut last) {
+        Ok(answer) => ending(heap, sheet, run.steps, answer, &last),
         Err(fault) => fault_line(heap, fault),
     }
 }
 
-fn plant_text(
-    heap: Global,
-    sheet: &Sheet,
-    plant: &Plant,
-    starts: &[u32],
-    n: u32,
-    inputs: &[u32],
-) -> Result<String, AllocError>
-    ensures { IfOk result (λ t. PlantText (sheet_of sheet.now) (plant_of plant.now) starts.now inputs.now n (string_bytes t)) }
+fn plant_text(heap: Global, sheet: &Sheet, run: &RunFile) -> Result<String, AllocError>
+    ensures { IfOk result (λ t. PlantText (sheet_of sheet.now) (run_of run.now).plant (run_of run.now).starts (run_of run.now).inputs (run_of run.now).steps (string_bytes t)) }
 {
-    match plant {
+    match &run.plant {
         Plant::Listed { default, entries } => {
             let mut model = Listed::new(*default, entries.as_slice());
-            run_text(heap, sheet, &mut model, starts, n, inputs)
+            run_text(heap, sheet, &mut model, run)
         }
         Plant::Affine { modulus, curves } => match Affine::new(*modulus, curves.as_slice()) {
-            Ok(mut model) => run_text(heap, sheet, &mut model, starts, n, inputs),
+            Ok(mut model) => run_text(heap, sheet, &mut model, run),
             Err(fault) => fault_line(heap, fault),
         },
     }
@@ -191,10 +149,8 @@ fn sheet_text(heap: Global, bytes: &[u8], run: &RunFile) -> Result<String, Alloc
     ensures { IfOk result (λ t. SheetText bytes.now (run_of run.now) (string_bytes t)) }
 {
     let mut sheet = smallest(heap)?;
-    let starts = run.starts.as_slice();
-    let inputs = run.inputs.as_slice();
     match read(bytes, heap, &mut sheet) {
-        Ok(()) => plant_text(heap, &sheet, &run.plant, starts, run.steps, inputs),
+        Ok(()) => plant_text(heap, &sheet, run),
         Err(failure) => failure_line(heap, failure),
     }
 }

@@ -8,9 +8,7 @@ loop-number-preserved c =
     let n = get_or c.args.numbers.now c.loop-number.number-index 0 in
     let more = drop (c.loop-number.number-index + 1) c.args.numbers.now in
     let e : spaced (drop c.loop-number.number-index c.args.numbers.now) ≡ (codes " " ++ decimal n) ++ spaced more = at_drop_more spaced c.args.numbers.now c.loop-number.number-index 0 c.loop-number-test.true in
-    let p = c.in_ok-push_str.ensures.bytes in
-    let q = c.as_str.ensures.value in
-    let w = c.in_ok-word.ensures.ok in
+    let p = c.in_ok-write.ensures in
     let g = append_assoc (string_bytes c.loop-number.text) (codes " " ++ decimal n) (spaced more) in
     let i = c.loop-number.invariant in
     cc

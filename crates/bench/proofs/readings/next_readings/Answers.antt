@@ -1,18 +1,16 @@
-use Rattle.std.proofs.Common.{◌≡◌, ℕ, get_or, sym, ap, ◌∙◌, arith}
+use Rattle.std.proofs.Common.{ℕ, get_or, sym, rules}
 use Rattle.sheet.specs.declared.syntax.Reading.{Reading}
-use Rattle.sheet.specs.System.{no_reading}
 use Rattle.sheet.specs.Runs.{or_kept, numbered}
-use Rattle.bench.proofs.Filling.{filled_more, rest_more, numbered_at, numbered_past}
+use Rattle.sheet.specs.View.{sheet_of}
+use Rattle.sheet.proofs.Arrays.{begins}
+use Rattle.sheet.proofs.Numbering.{numbered-length}
+use Rattle.bench.proofs.Filling.{begins_same}
+use Rattle.bench.proofs.Going.{few_readings}
 use Rattle.bench.proofs.readings.next_readings.Goals as goal
-use Rattle.bench.proofs.readings.next_readings.Goals.{then-k-readings, else-k-readings}
 
-pub loop-k-preserved : goal.loop-k-preserved
-loop-k-preserved c =
-    let given : ℕ → ℕ = λ k. get_or c.args.values.now (get_or c.args.chosen.now k 0) 0 in
-    let next : ℕ → Reading → ℕ = λ n r. or_kept given (get_or c.args.out.now n 0) r.next in
-    let is : c.if-k-readings.out ≡ get_or (numbered next 0 c.args.readings.now) c.loop-k.k 0 =
-    elim c.if-k-readings.branch [
-      | then-k-readings w ↦ w.out-is ∙ (w.next_reading.ensures ∙ (ap (λ x. or_kept given x (get_or c.args.readings.now c.loop-k.k no_reading).next) (c.loop-k.invariant.1 c.loop-k.k (omega arith)) ∙ sym (numbered_at next c.args.readings.now c.loop-k.k 0 no_reading w.if-k-readings.true)))
-      | else-k-readings w ↦ w.out-is ∙ numbered_past next c.args.readings.now c.loop-k.k 0 w.if-k-readings.false
-    ] in
-    (filled_more 0 c.loop-k.out (numbered next 0 c.args.readings.now) c.loop-k.k c.if-k-readings.out (omega arith) is c.loop-k.invariant.0, rest_more 0 c.loop-k.out c.args.out.now c.loop-k.k c.if-k-readings.out c.loop-k.invariant.1)
+pub returns : goal.returns
+returns c =
+    let next : ℕ → Reading → ℕ = λ n r. or_kept (λ k. get_or c.args.values.now (get_or c.args.chosen.now k 0) 0) (get_or c.args.old.now n 0) r.next in
+    let s = sheet_of c.args.sheet.now in
+    let long = sym (numbered-length next 0 s.readings) in
+    begins_same 0 c.from_fn.result (numbered next 0 s.readings) _ long (begins _ _ (numbered next 0 s.readings) 0 (λ k y q call. search rules) c.from_fn.result 6 c.from_fn.ensures.items _ long (few_readings s c.args.sheet.now.lawful))
