@@ -182,8 +182,7 @@ impl Sheet {
             questions,
             claims,
         };
-        let mut known = Truths::new(given);
-        known.of(formula as usize)
+        Truths::new(given).of(formula as usize)
     }
 
     /// The truth of every formula that has a place in `out`, each worked out once.
@@ -191,12 +190,13 @@ impl Sheet {
         ensures { (k : ℕ) → k < length out.old → slice_index_or out.new k false ≡ slice_index_or (truths bits.now questions.now claims.now (sheet_of self.now).formulas) k false }
     {
         let formulas = self.parts.formulas.as_slice();
-        let mut known = Truths::new(Given {
+        let given = Given {
             formulas,
             bits,
             questions,
             claims,
-        });
+        };
+        let mut known = Truths::new(given);
         for (n, slot) in out.iter_mut().enumerate() {
             *slot = known.of(n);
         }
@@ -206,8 +206,8 @@ impl Sheet {
     pub fn term_of_choice(&self, choice: u8, truths: &[bool]) -> u8
         ensures { result ≡ slice_index (chosen (λ f. get_or truths.now f false) (sheet_of self.now).choices) choice }
     {
-        let mut known = Terms::new(self.parts.choices.as_slice(), truths);
-        known.of(choice as usize)
+        let choices = self.parts.choices.as_slice();
+        Terms::new(choices, truths).of(choice as usize)
     }
 
     /// The terms that all choices with a place in `out` come to, each worked out once.

@@ -22,13 +22,13 @@ invariant_of-self t c =
     elim c.match-choice.branch [
       | in-Term w ↦ choice_term truth choices c.args.n at.3.0 c.in-Some.choice.now at.1 w.in-Term.t c.match-choice.value w.in-Term.is w.value-is
       | in-If w ↦
-        let test : w.unwrap_or-test.result ≡ truth w.in-If.f = search rules in
-        let next : w.if-test.next ≡ cond (truth w.in-If.f) w.in-If.a w.in-If.b =
-        elim w.if-test.branch [
-          | then-test w' ↦ w'.next-is ∙ ap (λ x. cond x w.in-If.a w.in-If.b) (sym w'.if-test.true ∙ test)
-          | else-test w' ↦ w'.next-is ∙ ap (λ x. cond x w.in-If.a w.in-If.b) (sym w'.if-test.false ∙ test)
-        ] in
-        choice_if truth choices c.args.n at.3.0 c.in-Some.choice.now at.1 w.in-If.f w.in-If.a w.in-If.b c.match-choice.value w.in-If.is (w.value-is ∙ (w.below-value.ensures.value ∙ ap (λ j. before 0 (chosen truth choices) j c.args.n) next))
+          let test : w.unwrap_or-test.result ≡ truth w.in-If.f = search rules in
+          let next : w.if-test.next ≡ cond (truth w.in-If.f) w.in-If.a w.in-If.b =
+          elim w.if-test.branch [
+            | then-test w' ↦ w'.next-is ∙ ap (λ x. cond x w.in-If.a w.in-If.b) (sym w'.if-test.true ∙ test)
+            | else-test w' ↦ w'.next-is ∙ ap (λ x. cond x w.in-If.a w.in-If.b) (sym w'.if-test.false ∙ test)
+          ] in
+          choice_if truth choices c.args.n at.3.0 c.in-Some.choice.now at.1 w.in-If.f w.in-If.a w.in-If.b c.match-choice.value w.in-If.is (w.value-is ∙ (w.below-value.ensures.value ∙ ap (λ j. before 0 (chosen truth choices) j c.args.n) next))
     ] in
     let ts : c.match-choice.self.truths ≡ c.args.self.now.truths =
     elim c.match-choice.branch [ in-Term w ↦ ap (λ (s : Terms). s.truths) w.self-is | in-If w ↦ ap (λ (s : Terms). s.truths) w.self-is ∙ w.below-value.ensures.truths ] in
@@ -46,12 +46,12 @@ returns-clause-value t c =
     elim c.match-choice.branch [
       | in-Term w ↦ choice_term truth choices c.args.n at.3.0 c.in-Some.choice.now at.1 w.in-Term.t c.match-choice.value w.in-Term.is w.value-is
       | in-If w ↦
-        let test : w.unwrap_or-test.result ≡ truth w.in-If.f = search rules in
-        let next : w.if-test.next ≡ cond (truth w.in-If.f) w.in-If.a w.in-If.b =
-        elim w.if-test.branch [
-          | then-test w' ↦ w'.next-is ∙ ap (λ x. cond x w.in-If.a w.in-If.b) (sym w'.if-test.true ∙ test)
-          | else-test w' ↦ w'.next-is ∙ ap (λ x. cond x w.in-If.a w.in-If.b) (sym w'.if-test.false ∙ test)
-        ] in
-        choice_if truth choices c.args.n at.3.0 c.in-Some.choice.now at.1 w.in-If.f w.in-If.a w.in-If.b c.match-choice.value w.in-If.is (w.value-is ∙ (w.below-value.ensures.value ∙ ap (λ j. before 0 (chosen truth choices) j c.args.n) next))
+          let test : w.unwrap_or-test.result ≡ truth w.in-If.f = search rules in
+          let next : w.if-test.next ≡ cond (truth w.in-If.f) w.in-If.a w.in-If.b =
+          elim w.if-test.branch [
+            | then-test w' ↦ w'.next-is ∙ ap (λ x. cond x w.in-If.a w.in-If.b) (sym w'.if-test.true ∙ test)
+            | else-test w' ↦ w'.next-is ∙ ap (λ x. cond x w.in-If.a w.in-If.b) (sym w'.if-test.false ∙ test)
+          ] in
+          choice_if truth choices c.args.n at.3.0 c.in-Some.choice.now at.1 w.in-If.f w.in-If.a w.in-If.b c.match-choice.value w.in-If.is (w.value-is ∙ (w.below-value.ensures.value ∙ ap (λ j. before 0 (chosen truth choices) j c.args.n) next))
     ] in
     is ∙ sym (before_here 0 (chosen truth choices) c.args.n c.args.below c.if-n-below.false)
