@@ -21,8 +21,8 @@ fn digit(c: u8) -> u8
 
 fn bytes_of(heap: Global, line: &[u8]) -> Result<Vec<u8>, AllocError> {
     let mut bytes = Vec::new(heap);
-    for i in 0..line.len() / 2 {
-        bytes.push(digit(line[2 * i]) * 16 + digit(line[2 * i + 1]))?;
+    for pair in line.chunks_exact(2) {
+        bytes.push(digit(pair[0]) * 16 + digit(pair[1]))?;
     }
     Ok(bytes)
 }

@@ -11,10 +11,6 @@ use Rattle.sheet.specs.Memo.{Remembers, before, operands_of, connected, grounded
 use Rattle.sheet.specs.Truth.{truth_of, truths, term_of_choice, chosen}
 use Rattle.sheet.proofs.Growing.{grow_at, grow-length}
 
--- an entry past the end
-abbrev pub no_formula : FormulaEntry
-no_formula = record { formula = Formula.True; info = record { has_question = false; has_claim = false } }
-
 pub before_here : {V : Type 0} (d : V) (values : List V) (n below : ℕ) → n < below → before d values n below ≡ get_or values n d
 before_here d values n below h = let t : ltb n below ≡ true = grind (arith, nat_tests) in rw t
 
@@ -70,41 +66,41 @@ grounded_is bits questions claims seen (Formula.Not x) e = absurd (none_some (sy
 grounded_is bits questions claims seen (Formula.And x y) e = absurd (none_some (sym e))
 grounded_is bits questions claims seen (Formula.Or x y) e = absurd (none_some (sym e))
 
-module _ (bits questions claims : List Bool) (entries : List FormulaEntry) (n : ℕ) (inside : n < length entries) (entry : FormulaEntry) where
+module _ (bits questions claims : List Bool) (entries : List FormulaEntry) (n : ℕ) (inside : n < length entries) (entry : FormulaEntry) (is : entry ≡ get_or entries n entry) where
   values : List Bool
   values = truths bits questions claims (map formula_in entries)
 
-  truth_at : get_or values n false ≡ truth_of bits questions claims (take n values) (formula_in (get_or entries n entry))
+  truth_at : get_or values n false ≡ truth_of bits questions claims (take n values) (formula_in entry)
   unfolding values
   truth_at =
       let i : n < length (map formula_in entries) = omega (arith, length-map entries formula_in) in
-      grow_at (truth_of bits questions claims) (map formula_in entries) n false Formula.True i ∙ ap (truth_of bits questions claims (take n (truths bits questions claims (map formula_in entries)))) (get_or-map formula_in entries n entry Formula.True inside)
+      grow_at (truth_of bits questions claims) (map formula_in entries) n false Formula.True i ∙ ap (truth_of bits questions claims (take n (truths bits questions claims (map formula_in entries)))) (get_or-map formula_in entries n entry Formula.True inside ∙ ap formula_in (sym is))
 
-  pub truth_connected : (a b : ℕ) (x y v : Bool) → operands_of (formula_in (get_or entries n entry)) ≡ Some (a, b) → x ≡ before false (truths bits questions claims (map formula_in entries)) a n → y ≡ before false (truths bits questions claims (map formula_in entries)) b n → v ≡ connected (formula_in (get_or entries n entry)) x y → v ≡ get_or (truths bits questions claims (map formula_in entries)) n false
+  pub truth_connected : (a b : ℕ) (x y v : Bool) → operands_of (formula_in entry) ≡ Some (a, b) → x ≡ before false (truths bits questions claims (map formula_in entries)) a n → y ≡ before false (truths bits questions claims (map formula_in entries)) b n → v ≡ connected (formula_in entry) x y → v ≡ get_or (truths bits questions claims (map formula_in entries)) n false
   unfolding values
   truth_connected a b x y v o p q e =
       let p' = p ∙ sym (take-before false values a n) in
       let q' = q ∙ sym (take-before false values b n) in
-      let c = connected_is bits questions claims (take n values) (formula_in (get_or entries n entry)) a b o in
+      let c = connected_is bits questions claims (take n values) (formula_in entry) a b o in
       let t = truth_at in
-      e ∙ (ap₂ (connected (formula_in (get_or entries n entry))) p' q' ∙ (sym c ∙ sym t))
+      e ∙ (ap₂ (connected (formula_in entry)) p' q' ∙ (sym c ∙ sym t))
 
-  pub truth_grounded : (v : Bool) → operands_of (formula_in (get_or entries n entry)) ≡ None → v ≡ grounded bits questions claims (formula_in (get_or entries n entry)) → v ≡ get_or (truths bits questions claims (map formula_in entries)) n false
+  pub truth_grounded : (v : Bool) → operands_of (formula_in entry) ≡ None → v ≡ grounded bits questions claims (formula_in entry) → v ≡ get_or (truths bits questions claims (map formula_in entries)) n false
   unfolding values
-  truth_grounded v o e = e ∙ (sym (grounded_is bits questions claims (take n values) (formula_in (get_or entries n entry)) o) ∙ sym truth_at)
+  truth_grounded v o e = e ∙ (sym (grounded_is bits questions claims (take n values) (formula_in entry) o) ∙ sym truth_at)
 
 pub truth_past : (bits questions claims : List Bool) (entries : List FormulaEntry) (n below : ℕ) → length entries ≤ n → false ≡ before false (truths bits questions claims (map formula_in entries)) n below
 truth_past bits questions claims entries n below h =
     sym (before_past false (truths bits questions claims (map formula_in entries)) n below (omega (arith, grow-length (truth_of bits questions claims) [] (map formula_in entries), length-map entries formula_in)))
 
-module _ (truth : ℕ → Bool) (choices : List Choice) (n : ℕ) (inside : n < length choices) (choice : Choice) where
-  choice_at : get_or (chosen truth choices) n 0 ≡ term_of_choice truth (take n (chosen truth choices)) (get_or choices n choice)
-  choice_at = grow_at (term_of_choice truth) choices n 0 choice inside
+module _ (truth : ℕ → Bool) (choices : List Choice) (n : ℕ) (inside : n < length choices) (choice : Choice) (is-choice : choice ≡ get_or choices n choice) where
+  choice_at : get_or (chosen truth choices) n 0 ≡ term_of_choice truth (take n (chosen truth choices)) choice
+  choice_at = grow_at (term_of_choice truth) choices n 0 choice inside ∙ ap (term_of_choice truth (take n (chosen truth choices))) (sym is-choice)
 
-  pub choice_term : (t v : ℕ) → get_or choices n choice ≡ Choice.Term t → v ≡ t → v ≡ get_or (chosen truth choices) n 0
+  pub choice_term : (t v : ℕ) → choice ≡ Choice.Term t → v ≡ t → v ≡ get_or (chosen truth choices) n 0
   choice_term t v e is = is ∙ (sym (ap (term_of_choice truth (take n (chosen truth choices))) e) ∙ sym choice_at)
 
-  pub choice_if : (f a b v : ℕ) → get_or choices n choice ≡ Choice.If f a b → v ≡ before 0 (chosen truth choices) (cond (truth f) a b) n → v ≡ get_or (chosen truth choices) n 0
+  pub choice_if : (f a b v : ℕ) → choice ≡ Choice.If f a b → v ≡ before 0 (chosen truth choices) (cond (truth f) a b) n → v ≡ get_or (chosen truth choices) n 0
   choice_if f a b v e is =
       is ∙ (sym (take-before 0 (chosen truth choices) (cond (truth f) a b) n) ∙ (by_test (truth f) ∙ (sym (ap (term_of_choice truth (take n (chosen truth choices))) e) ∙ sym choice_at)))
     where

@@ -1,6 +1,9 @@
 -- Values that are remembered while a list of values is worked out. Assumes nothing.
-use Rattle.std.specs.Prelude.{◌≡◌, ℕ, Bool, true, false, cond, not, ◌&&◌, ◌||◌, List, Some, None, Option, nat_lt, slice_index_or}
+use Rattle.std.specs.Prelude.{◌≡◌, ℕ, Bool, true, false, cond, not, ◌&&◌, ◌||◌, List, map, Some, None, Option, nat_lt, slice_index_or}
 use Rattle.sheet.specs.declared.syntax.Formula.{Formula}
+use Rattle.sheet.specs.declared.truth.Given.{Given}
+use Rattle.sheet.specs.Stored.{formula_in}
+use Rattle.sheet.specs.Truth.{truths}
 
 -- whatever is remembered is right
 abbrev pub Remembers : {V : Type 0} → V → List V → List (Option V) → Type 0
@@ -37,3 +40,7 @@ grounded bits questions claims (Formula.Claim c) = slice_index_or claims c false
 grounded bits questions claims (Formula.Not a) = false
 grounded bits questions claims (Formula.And a b) = false
 grounded bits questions claims (Formula.Or a b) = false
+
+-- the truths of the formulas, from what they are built on
+abbrev pub truths_from : Given → List Bool
+truths_from g = truths g.bits.now g.questions.now g.claims.now (map formula_in g.formulas.now)

@@ -1,9 +1,8 @@
 //! The truth of a formula and the term of a choice, by recursion on falling numbers. What is known
 //! already is not worked out again, so however often operands are shared, each is worked out once.
-ghost use Rattle.std.specs.Prelude.{◌≡◌, ℕ, ◌<◌, false, map, length, get_or, if◌then◌else◌, Some, None, slice_index, slice_index_or, slice_set};
-ghost use Rattle.sheet.specs.Stored.{formula_in};
-ghost use Rattle.sheet.specs.Truth.{truth_of, truths, term_of_choice, chosen};
-ghost use Rattle.sheet.specs.Memo.{Remembers, before, operands_of, connected, grounded};
+ghost use Rattle.std.specs.Prelude.{◌≡◌, ℕ, ◌<◌, false, length, get_or, slice_index, slice_index_or};
+ghost use Rattle.sheet.specs.Truth.{truths, chosen};
+ghost use Rattle.sheet.specs.Memo.{Remembers, before, operands_of, connected, grounded, truths_from};
 ghost use Rattle.sheet.specs.View.{sheet_of};
 
 use crate::memo::{recall, remember};
@@ -13,21 +12,13 @@ use crate::syntax::{Choice, Formula, FormulaEntry};
 // How many values are remembered: as many as there can be formulas or choices.
 const MOST: usize = 64;
 
-fn bit_of(bits: &[bool], number: u8) -> bool
-    ensures { result ≡ slice_index_or bits.now number false }
-{
-    let n = number as usize;
-    if n < bits.len() { bits[n] } else { false }
-}
-
 // The formulas that a formula is made of.
 fn operands(formula: Formula) -> Option<(u8, u8)>
     ensures { result ≡ operands_of formula }
 {
     match formula {
         Formula::Not(a) => Some((a, a)),
-        Formula::And(a, b) => Some((a, b)),
-        Formula::Or(a, b) => Some((a, b)),
+        Formula::And(a, b) | Formula::Or(a, b) => Some((a, b)),
         _ => None,
     }
 }
@@ -43,140 +34,138 @@ fn connect(formula: Formula, left: bool, right: bool) -> bool
     }
 }
 
-fn ground(formula: Formula, bits: &[bool], questions: &[bool], claims: &[bool]) -> bool
-    ensures { result ≡ grounded bits.now questions.now claims.now formula }
-{
-    match formula {
-        Formula::True => true,
-        Formula::Bit(b) => bit_of(bits, b),
-        Formula::Question(q) => bit_of(questions, q),
-        Formula::Claim(c) => bit_of(claims, c),
-        _ => false,
-    }
+// The formulas, and what they are built on.
+#[derive(Clone, Copy)]
+struct Given<'a> {
+    formulas: &'a [FormulaEntry],
+    bits: &'a [bool],
+    questions: &'a [bool],
+    claims: &'a [bool],
 }
 
-// The truth of formula n, if n is below the given number, else false.
-fn truth_below(
-    formulas: &[FormulaEntry],
-    bits: &[bool],
-    questions: &[bool],
-    claims: &[bool],
-    n: usize,
-    below: usize,
-    known: &mut [Option<bool>],
-) -> bool
-    requires { Remembers false (truths bits.now questions.now claims.now (map formula_in formulas.now)) known.old }
-    ensures value { result ≡ before false (truths bits.now questions.now claims.now (map formula_in formulas.now)) n below }
-    ensures known { Remembers false (truths bits.now questions.now claims.now (map formula_in formulas.now)) known.new }
-{
-    if n >= below {
-        return false;
-    }
-    if n >= formulas.len() {
-        return false;
-    }
-    if let Some(value) = recall(known, n) {
-        return value;
-    }
-    let formula = formulas[n].formula;
-    let value = match operands(formula) {
-        Some((a, b)) => {
-            let left = truth_below(formulas, bits, questions, claims, a as usize, n, known);
-            let right = truth_below(formulas, bits, questions, claims, b as usize, n, known);
-            connect(formula, left, right)
+impl Given<'_> {
+    fn ground(&self, formula: Formula) -> bool
+        ensures { result ≡ grounded self.now.bits.now self.now.questions.now self.now.claims.now formula }
+    {
+        match formula {
+            Formula::True => true,
+            Formula::Bit(b) => self.bits.get(b as usize).copied().unwrap_or(false),
+            Formula::Question(q) => self.questions.get(q as usize).copied().unwrap_or(false),
+            Formula::Claim(c) => self.claims.get(c as usize).copied().unwrap_or(false),
+            _ => false,
         }
-        None => ground(formula, bits, questions, claims),
-    };
-    remember(known, n, value);
-    value
+    }
 }
 
-fn pick(test: bool, a: u8, b: u8) -> u8
-    ensures { result ≡ (if test then a else b) }
-{
-    if test { a } else { b }
+// The truths of the formulas that are known already.
+#[derive(Drop)]
+struct Truths<'a> {
+    given: Given<'a>,
+    known: [Option<bool>; MOST],
+    ghost right: { Remembers false (truths_from given) known },
 }
 
-// The term of choice n, if n is below the given number, else 0.
-fn choice_below(
-    choices: &[Choice],
-    truths: &[bool],
-    n: usize,
-    below: usize,
-    known: &mut [Option<u8>],
-) -> u8
-    requires { Remembers 0 (chosen (λ f. get_or truths.now f false) choices.now) known.old }
-    ensures value { result ≡ before 0 (chosen (λ f. get_or truths.now f false) choices.now) n below }
-    ensures known { Remembers 0 (chosen (λ f. get_or truths.now f false) choices.now) known.new }
-{
-    if n >= below {
-        return 0;
-    }
-    if n >= choices.len() {
-        return 0;
-    }
-    if let Some(value) = recall(known, n) {
-        return value;
-    }
-    let choice = choices[n];
-    let value = match choice {
-        Choice::Term(t) => t,
-        Choice::If(f, a, b) => {
-            let next = pick(bit_of(truths, f), a, b);
-            choice_below(choices, truths, next as usize, n, known)
+impl<'a> Truths<'a> {
+    fn new(given: Given<'a>) -> Truths<'a>
+        ensures { result.given ≡ given.entry }
+    {
+        Truths {
+            given,
+            known: [None; MOST],
         }
-    };
-    remember(known, n, value);
-    value
-}
+    }
 
-// The truth of formula n.
-fn truth_of(
-    formulas: &[FormulaEntry],
-    bits: &[bool],
-    questions: &[bool],
-    claims: &[bool],
-    n: usize,
-    known: &mut [Option<bool>],
-) -> bool
-    requires { Remembers false (truths bits.now questions.now claims.now (map formula_in formulas.now)) known.old }
-    ensures value { result ≡ slice_index_or (truths bits.now questions.now claims.now (map formula_in formulas.now)) n false }
-    ensures known { Remembers false (truths bits.now questions.now claims.now (map formula_in formulas.now)) known.new }
-{
-    truth_below(formulas, bits, questions, claims, n, formulas.len(), known)
-}
+    // The truth of formula n, if n is below the given number, else false.
+    fn below(&mut self, n: usize, below: usize) -> bool
+        ensures value { result ≡ before false (truths_from self.old.given) n below }
+        ensures given { self.new.given ≡ self.old.given }
+    {
+        if n >= below {
+            return false;
+        }
+        let Some(entry) = self.given.formulas.get(n) else {
+            return false;
+        };
+        if let Some(value) = recall(&self.known, n) {
+            return value;
+        }
+        let formula = entry.formula;
+        let value = match operands(formula) {
+            Some((a, b)) => {
+                let left = self.below(a as usize, n);
+                let right = self.below(b as usize, n);
+                connect(formula, left, right)
+            }
+            None => self.given.ground(formula),
+        };
+        remember(&mut self.known, n, value);
+        value
+    }
 
-fn all_truths(
-    formulas: &[FormulaEntry],
-    bits: &[bool],
-    questions: &[bool],
-    claims: &[bool],
-    known: &mut [Option<bool>],
-    out: &mut [bool],
-)
-    requires { Remembers false (truths bits.now questions.now claims.now (map formula_in formulas.now)) known.old }
-    ensures { (k : ℕ) → k < length out.old → slice_index_or out.new k false ≡ slice_index_or (truths bits.now questions.now claims.now (map formula_in formulas.now)) k false }
-{
-    for n in 0..out.len() {
-        out[n] = truth_of(formulas, bits, questions, claims, n, known);
+    // The truth of formula n.
+    fn of(&mut self, n: usize) -> bool
+        ensures value { result ≡ slice_index_or (truths_from self.old.given) n false }
+        ensures given { self.new.given ≡ self.old.given }
+    {
+        self.below(n, self.given.formulas.len())
     }
 }
 
-// The term of choice n.
-fn choice_of(choices: &[Choice], truths: &[bool], n: usize, known: &mut [Option<u8>]) -> u8
-    requires { Remembers 0 (chosen (λ f. get_or truths.now f false) choices.now) known.old }
-    ensures value { result ≡ slice_index (chosen (λ f. get_or truths.now f false) choices.now) n }
-    ensures known { Remembers 0 (chosen (λ f. get_or truths.now f false) choices.now) known.new }
-{
-    choice_below(choices, truths, n, choices.len(), known)
+// The terms of the choices that are known already, by the truth of the formulas.
+#[derive(Drop)]
+struct Terms<'a> {
+    choices: &'a [Choice],
+    truths: &'a [bool],
+    known: [Option<u8>; MOST],
+    ghost right: { Remembers 0 (chosen (λ f. get_or truths.now f false) choices.now) known },
 }
 
-fn all_choices(choices: &[Choice], truths: &[bool], known: &mut [Option<u8>], out: &mut [u8])
-    requires { Remembers 0 (chosen (λ f. get_or truths.now f false) choices.now) known.old }
-    ensures { (k : ℕ) → k < length out.old → slice_index out.new k ≡ slice_index (chosen (λ f. get_or truths.now f false) choices.now) k }
-{
-    for n in 0..out.len() {
-        out[n] = choice_of(choices, truths, n, known);
+impl<'a> Terms<'a> {
+    fn new(choices: &'a [Choice], truths: &'a [bool]) -> Terms<'a>
+        ensures choices { result.choices.now ≡ choices.now }
+        ensures truths { result.truths.now ≡ truths.now }
+    {
+        Terms {
+            choices,
+            truths,
+            known: [None; MOST],
+        }
+    }
+
+    // The term of choice n, if n is below the given number, else 0.
+    fn below(&mut self, n: usize, below: usize) -> u8
+        ensures value { result ≡ before 0 (chosen (λ f. get_or self.old.truths.now f false) self.old.choices.now) n below }
+        ensures choices { self.new.choices ≡ self.old.choices }
+        ensures truths { self.new.truths ≡ self.old.truths }
+    {
+        if n >= below {
+            return 0;
+        }
+        let Some(choice) = self.choices.get(n) else {
+            return 0;
+        };
+        if let Some(value) = recall(&self.known, n) {
+            return value;
+        }
+        let value = match *choice {
+            Choice::Term(t) => t,
+            Choice::If(f, a, b) => {
+                let test = self.truths.get(f as usize).copied().unwrap_or(false);
+                let next = if test { a } else { b };
+                self.below(next as usize, n)
+            }
+        };
+        remember(&mut self.known, n, value);
+        value
+    }
+
+    // The term of choice n.
+    fn of(&mut self, n: usize) -> u8
+        ensures value { result ≡ slice_index (chosen (λ f. get_or self.old.truths.now f false) self.old.choices.now) n }
+        ensures choices { self.new.choices ≡ self.old.choices }
+        ensures truths { self.new.truths ≡ self.old.truths }
+    {
+        self.below(n, self.choices.len())
     }
 }
 
@@ -186,35 +175,49 @@ impl Sheet {
     pub fn truth(&self, formula: u8, bits: &[bool], questions: &[bool], claims: &[bool]) -> bool
         ensures { result ≡ slice_index_or (truths bits.now questions.now claims.now (sheet_of self.now).formulas) formula false }
     {
-        let mut known = [None; MOST];
-        let all = self.parts.formulas.as_slice();
-        truth_of(all, bits, questions, claims, formula as usize, &mut known)
+        let formulas = self.parts.formulas.as_slice();
+        let given = Given {
+            formulas,
+            bits,
+            questions,
+            claims,
+        };
+        Truths::new(given).of(formula as usize)
     }
 
     /// The truth of every formula that has a place in `out`, each worked out once.
     pub fn truths(&self, bits: &[bool], questions: &[bool], claims: &[bool], out: &mut [bool])
         ensures { (k : ℕ) → k < length out.old → slice_index_or out.new k false ≡ slice_index_or (truths bits.now questions.now claims.now (sheet_of self.now).formulas) k false }
     {
-        let mut known = [None; MOST];
-        let all = self.parts.formulas.as_slice();
-        all_truths(all, bits, questions, claims, &mut known, out);
+        let formulas = self.parts.formulas.as_slice();
+        let given = Given {
+            formulas,
+            bits,
+            questions,
+            claims,
+        };
+        let mut known = Truths::new(given);
+        for (n, slot) in out.iter_mut().enumerate() {
+            *slot = known.of(n);
+        }
     }
 
     /// The term that a choice comes to, by the truth of the formulas. Past the end it is 0.
     pub fn term_of_choice(&self, choice: u8, truths: &[bool]) -> u8
         ensures { result ≡ slice_index (chosen (λ f. get_or truths.now f false) (sheet_of self.now).choices) choice }
     {
-        let mut known = [None; MOST];
-        let all = self.parts.choices.as_slice();
-        choice_of(all, truths, choice as usize, &mut known)
+        let choices = self.parts.choices.as_slice();
+        Terms::new(choices, truths).of(choice as usize)
     }
 
     /// The terms that all choices with a place in `out` come to, each worked out once.
     pub fn terms_of_choices(&self, truths: &[bool], out: &mut [u8])
         ensures { (k : ℕ) → k < length out.old → slice_index out.new k ≡ slice_index (chosen (λ f. get_or truths.now f false) (sheet_of self.now).choices) k }
     {
-        let mut known = [None; MOST];
-        let all = self.parts.choices.as_slice();
-        all_choices(all, truths, &mut known, out);
+        let choices = self.parts.choices.as_slice();
+        let mut known = Terms::new(choices, truths);
+        for (n, slot) in out.iter_mut().enumerate() {
+            *slot = known.of(n);
+        }
     }
 }

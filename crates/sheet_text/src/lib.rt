@@ -12,20 +12,17 @@ use sheet::{Kind, Record};
 use std::alloc::{AllocError, Global};
 
 // Each number after a space.
-fn push_numbers(heap: Global, text: &mut String, body: &[u8]) -> Result<(), AllocError>
+fn push_numbers(text: &mut String, body: &[u8]) -> Result<(), AllocError>
     ensures { OnOk result (string_bytes text.new ≡ string_bytes text.old ++ numbers_of body.now) }
 {
     for b in body {
-        let n = *b;
-        let word = format!(in heap; " {n}")?;
-        text.push_str(word.as_str())?;
+        write!(text, " {b}")?;
     }
     Ok(())
 }
 
 // The line of the record with this number, at this place.
 fn push_line(
-    heap: Global,
     text: &mut String,
     number: usize,
     place: usize,
@@ -35,16 +32,14 @@ fn push_line(
     ensures { OnOk result (string_bytes text.new ≡ string_bytes text.old ++ line_of number place letter body.now) }
 {
     let kind = letter as char;
-    let front = format!(in heap; "record {number} byte {place} {kind}")?;
-    text.push_str(front.as_str())?;
-    push_numbers(heap, text, body)?;
+    write!(text, "record {number} byte {place} {kind}")?;
+    push_numbers(text, body)?;
     text.push_str("\n")?;
     Ok(())
 }
 
 // The line of a record that stands at the place, and the place after it.
 fn push_record(
-    heap: Global,
     text: &mut String,
     bytes: &[u8],
     number: usize,
@@ -56,23 +51,18 @@ fn push_record(
 {
     let start = place + 1;
     let end = start + kind.body_length();
-    push_line(heap, text, number, place, bytes[place], &bytes[start..end])?;
+    push_line(text, number, place, bytes[place], &bytes[start..end])?;
     Ok(end)
 }
 
 // The lines of the records, which stand at the front of the bytes, and the place after them.
-fn push_records(
-    heap: Global,
-    text: &mut String,
-    bytes: &[u8],
-    records: &Vec<Record>,
-) -> Result<usize, AllocError>
-    requires { Front bytes.now records.now.items }
-    ensures { IfOk result (λ p. (p ≡ length (written_all records.now.items)) × (string_bytes text.new ≡ string_bytes text.old ++ lines_of 0 0 records.now.items)) }
+fn push_records(text: &mut String, bytes: &[u8], records: &[Record]) -> Result<usize, AllocError>
+    requires { Front bytes.now records.now }
+    ensures { IfOk result (λ p. (p ≡ length (written_all records.now)) × (string_bytes text.new ≡ string_bytes text.old ++ lines_of 0 0 records.now)) }
 {
     let mut place = 0;
     for (number, record) in records.iter().enumerate() {
-        place = push_record(heap, text, bytes, number, place, record.kind())?;
+        place = push_record(text, bytes, number, place, record.kind())?;
     }
     Ok(place)
 }
@@ -84,38 +74,36 @@ pub fn listing(heap: Global, bytes: &[u8]) -> Result<String, AllocError>
     let mut records = Vec::new(heap);
     let outcome = read_records(bytes, heap, &mut records);
     match outcome {
-        Ok(_) => whole_listing(heap, bytes, &records),
-        Err(Failure::Fault(fault)) => faulty_listing(heap, bytes, &records, fault),
+        Ok(_) => whole_listing(heap, bytes, records.as_slice()),
+        Err(Failure::Fault(fault)) => faulty_listing(heap, bytes, records.as_slice(), fault),
         Err(Failure::Memory) => Err(AllocError),
     }
 }
 
-fn whole_listing(heap: Global, bytes: &[u8], records: &Vec<Record>) -> Result<String, AllocError>
-    requires { Front bytes.now records.now.items }
-    ensures { IfOk result (λ t. string_bytes t ≡ lines_of 0 0 records.now.items ++ ok_line (length records.now.items) (length (written_all records.now.items))) }
+fn whole_listing(heap: Global, bytes: &[u8], records: &[Record]) -> Result<String, AllocError>
+    requires { Front bytes.now records.now }
+    ensures { IfOk result (λ t. string_bytes t ≡ lines_of 0 0 records.now ++ ok_line (length records.now) (length (written_all records.now))) }
 {
     let mut text = String::new(heap);
-    let place = push_records(heap, &mut text, bytes, records)?;
+    let place = push_records(&mut text, bytes, records)?;
     let number = records.len();
-    push_line(heap, &mut text, number, place, b'E', &[])?;
+    push_line(&mut text, number, place, b'E', &[])?;
     let count = number as u128 + 1;
-    let last = format!(in heap; "sheet ok records {count}\n")?;
-    text.push_str(last.as_str())?;
+    writeln!(text, "sheet ok records {count}")?;
     Ok(text)
 }
 
 fn faulty_listing(
     heap: Global,
     bytes: &[u8],
-    records: &Vec<Record>,
+    records: &[Record],
     fault: Fault,
 ) -> Result<String, AllocError>
-    requires { Front bytes.now records.now.items }
-    ensures { IfOk result (λ t. string_bytes t ≡ lines_of 0 0 records.now.items ++ (text_of fault ++ codes "\n")) }
+    requires { Front bytes.now records.now }
+    ensures { IfOk result (λ t. string_bytes t ≡ lines_of 0 0 records.now ++ (text_of fault ++ codes "\n")) }
 {
     let mut text = String::new(heap);
-    push_records(heap, &mut text, bytes, records)?;
-    let last = format!(in heap; "{fault}\n")?;
-    text.push_str(last.as_str())?;
+    push_records(&mut text, bytes, records)?;
+    writeln!(text, "{fault}")?;
     Ok(text)
 }

@@ -8,9 +8,7 @@ loop-b-preserved c =
     let n = get_or c.args.body.now c.loop-b.b-index 0 in
     let more = drop (c.loop-b.b-index + 1) c.args.body.now in
     let e : numbers_of (drop c.loop-b.b-index c.args.body.now) ≡ (codes " " ++ decimal n) ++ numbers_of more = at_drop_more numbers_of c.args.body.now c.loop-b.b-index 0 c.loop-b-test.true in
-    let p = c.in_ok-push_str.ensures.bytes in
-    let q = c.as_str.ensures.value in
-    let w = c.in_ok-word.ensures.ok in
+    let w = c.in_ok-write.ensures.bytes in
     let g = append_assoc (string_bytes c.loop-b.text) (codes " " ++ decimal n) (numbers_of more) in
     let i = c.loop-b.invariant in
     cc
