@@ -49,7 +49,8 @@ impl Table {
         }
     }
 
-    /// A place of the sought signature on the table.
+    /// A place of the sought signature on the table. Crate `banks` looks nodes up in the same way: a call for both would
+    /// ask that chains go down, and public calls ask nothing.
     pub(crate) fn lookup(&self, places: &Places, labels: &[u16], sought: Node) -> Option<usize>
         requires inside { self.now.seen ≤ places.now.terms }
         requires labelled { places.now.terms ≤ length labels.now }
@@ -82,11 +83,7 @@ impl Table {
             Some(j) => {
                 self.seen += 1;
                 let gone = labels[i].max(labels[j]);
-                if join(labels, places.terms, i, j) {
-                    Some(gone)
-                } else {
-                    None
-                }
+                join(labels, places.terms, i, j).then_some(gone)
             }
             None => {
                 let at = bucket(sought);
