@@ -7,11 +7,7 @@ use std::io::Read;
 fn run(rt: &HostRuntime) -> anyhow::Result<()> {
     let mut text = Vec::new(rt.alloc());
     rt.stdin().read_to_end(&mut text)?;
-    let whole = match text.last() {
-        Some(last) => *last == b'\n',
-        None => true,
-    };
-    if !whole {
+    if text.last().is_some_and(|last| *last != b'\n') {
         text.push(b'\n')?;
     }
     let answer = decide_text(rt.alloc(), &text);

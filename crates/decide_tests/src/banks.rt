@@ -2,15 +2,7 @@
 use closure::{decide, entails};
 use fault::TableFault;
 use std::test::Fail;
-use terms::{Condition, Count, CountGuard, Node, Sign, TermRecord, intern};
-
-fn no_records() -> [TermRecord; 512] {
-    [TermRecord {
-        node: Node::Name(0),
-        height: 0,
-        names: 0,
-    }; 512]
-}
+use terms::{Condition, Count, CountGuard, MOST_TERMS, Node, Sign, TermRecord, intern};
 
 fn between(left: u16, right: u16, sign: Sign) -> Condition {
     Condition { left, right, sign }
@@ -27,13 +19,12 @@ fn chain(bank: &mut [TermRecord], count: &mut Count, links: u16) -> Result<u16, 
 // Working terms leave again, also by way of a refusal.
 fn working(bank: &mut [TermRecord], count: &mut Count) -> Result<u16, TableFault> {
     let guard = CountGuard::new(count);
-    let place = chain(bank, &mut *guard.count, 600)?;
-    Ok(place)
+    chain(bank, &mut *guard.count, 600)
 }
 
 #[test]
 fn fills_up(rt: HostRuntime) {
-    let mut bank = no_records();
+    let mut bank = [TermRecord::BLANK; MOST_TERMS];
     let mut count = Count { terms: 0 };
     assert_eq!(rt; chain(&mut bank, &mut count, 3), Ok(3));
     assert_eq!(rt; chain(&mut bank, &mut count, 2), Ok(2));
@@ -60,7 +51,7 @@ fn fills_up(rt: HostRuntime) {
 
 #[test]
 fn concludes(rt: HostRuntime) -> Result<(), Fail> {
-    let mut bank = no_records();
+    let mut bank = [TermRecord::BLANK; MOST_TERMS];
     let mut count = Count { terms: 0 };
     let x = intern(&mut bank, &mut count, Node::Name(0))?;
     let y = intern(&mut bank, &mut count, Node::Name(1))?;
@@ -139,11 +130,10 @@ fn concludes(rt: HostRuntime) -> Result<(), Fail> {
 
 #[test]
 fn refuses_other_memory(rt: HostRuntime) {
-    let mut bank = no_records();
+    let mut bank = [TermRecord::BLANK; MOST_TERMS];
     bank[1] = TermRecord {
         node: Node::Unary(0, 1),
-        height: 0,
-        names: 0,
+        ..TermRecord::BLANK
     };
     let mut labels = [7u16; 4];
     assert!(rt; decide(&bank, Count { terms: 1 }, &[], &mut labels).is_ok());

@@ -36,6 +36,7 @@ fn read(heap: Global, text: &[u8], reader: &mut Reader) -> Result<Vec<Condition>
 }
 
 /// What is found of a text of conditions.
+// No `Result`: that there are too many terms is found as well, and each of the four is printed as an answer.
 #[derive(Clone, Copy, Debug, PartialEq, Eq)]
 pub enum Answer {
     /// No interpretation meets the conditions.
@@ -71,13 +72,8 @@ fn verdict(reader: &Reader, conditions: &[Condition]) -> Answer
 {
     let mut labels = [0; MOST_TERMS];
     match decide(&reader.bank, reader.count, conditions, &mut labels) {
-        Ok(found) => {
-            if found.impossible {
-                Answer::Impossible { joins: found.joins }
-            } else {
-                Answer::Possible
-            }
-        }
+        Ok(found) if found.impossible => Answer::Impossible { joins: found.joins },
+        Ok(_) => Answer::Possible,
         Err(_) => Answer::Full,
     }
 }

@@ -1,7 +1,8 @@
 -- Sets of names: a union has the names of both.
-use Rattle.std.proofs.Common.{◌≡◌, None, Option, MatchOption, ℕ, zero, suc, ◌+◌, ◌/◌, ◌%◌, ◌^◌, ◌<◌, ◌≤◌, Bool, true, false, ◌||◌, eqb, List, [], ◌∷◌, ◌++◌, map, length, get_or, take, Some, sym, refl, ap, ◌∙◌, arith, bit_or}
-use Rattle.std.proofs.Math.Nat.{zero-div}
-use Rattle.std.proofs.lemmas.Nat.{or_shr, or_mod}
+use Rattle.std.proofs.Common.{◌≡◌, max, None, Option, MatchOption, ℕ, zero, suc, ◌+◌, ◌/◌, ◌%◌, ◌^◌, ◌<◌, ◌≤◌, Bool, true, false, ◌||◌, eqb, List, [], ◌∷◌, ◌++◌, map, length, get_or, take, Some, sym, refl, ap, ◌∙◌, arith, bit_or}
+use Rattle.std.proofs.Math.Bool.{or_assoc, or-false}
+use Rattle.std.proofs.lemmas.Nat.Bits.{bit_at_or}
+use Rattle.std.proofs.lemmas.Bool.Decides.{nat_tests}
 use Rattle.std.proofs.lemmas.Bool.{cond-true, cond-false}
 use Rattle.std.proofs.lemmas.List.{map_more, length-take-le, get_or-take}
 use Rattle.terms.specs.declared.Condition.{Condition}
@@ -14,35 +15,18 @@ use Rattle.forms.specs.Rows.{Row, occurs_in_terms, occurs_in_literals, lowest_fr
 use Rattle.rows.specs.Records.{Between}
 use Rattle.rows.specs.Names.{is_in, NamesOfTerms, NamesOfLiterals, NamesOfRow}
 
-or_bits : (a b : ℕ) → a < 2 → b < 2 → eqb (bit_or a b) 1 ≡ eqb a 1 || eqb b 1
-or_bits zero zero p q = refl
-or_bits zero (suc zero) p q = refl
-or_bits (suc zero) zero p q = refl
-or_bits (suc zero) (suc zero) p q = refl
-or_bits zero (suc (suc b)) p q = absurd (omega arith)
-or_bits (suc zero) (suc (suc b)) p q = absurd (omega arith)
-or_bits (suc (suc a)) b p q = absurd (omega arith)
+max_bits : (p q : ℕ) → p < 2 → q < 2 → eqb (max p q) 1 ≡ eqb p 1 || eqb q 1
+max_bits p q below below' = grind (arith, nat_tests)
 
 pub in-union : (a b x : ℕ) → is_in (bit_or a b) x ≡ is_in a x || is_in b x
-in-union a b x = rw (or_shr a b x, or_mod (a / 2 ^ x) (b / 2 ^ x) 1) (or_bits (a / 2 ^ x % 2) (b / 2 ^ x % 2) (omega arith) (omega arith))
-
-or_assoc : (a b c : Bool) → (a || b) || c ≡ a || (b || c)
-or_assoc true b c = refl
-or_assoc false b c = refl
-
-or-false_right : (a : Bool) → a || false ≡ a
-or-false_right true = refl
-or-false_right false = refl
-
-pub none_in : (x : ℕ) → is_in 0 x ≡ false
-none_in x = rw (zero-div (2 ^ x)) refl
+in-union a b x = rw (bit_at_or a b x) (max_bits (a / 2 ^ x % 2) (b / 2 ^ x % 2) (omega arith) (omega arith))
 
 occurs-push : (x : ℕ) (ts : List Term) (t : Term) → occurs_in_terms x (ts ++ t ∷ []) ≡ occurs_in_terms x ts || occurs x t
-occurs-push x [] t = or-false_right (occurs x t)
+occurs-push x [] t = or-false (occurs x t)
 occurs-push x (u ∷ ts) t = ap (λ b. occurs x u || b) (occurs-push x ts t) ∙ sym (or_assoc (occurs x u) (occurs_in_terms x ts) (occurs x t))
 
 literals-push : (x : ℕ) (cs : List Literal) (c : Literal) → occurs_in_literals x (cs ++ c ∷ []) ≡ occurs_in_literals x cs || (occurs x c.left || occurs x c.right)
-literals-push x [] c = or-false_right (occurs x c.left || occurs x c.right)
+literals-push x [] c = or-false (occurs x c.left || occurs x c.right)
 literals-push x (d ∷ cs) c = ap (λ b. (occurs x d.left || occurs x d.right) || b) (literals-push x cs c) ∙ sym (or_assoc (occurs x d.left || occurs x d.right) (occurs_in_literals x cs) (occurs x c.left || occurs x c.right))
 
 pub terms_more : (set : ℕ) (ts : List Term) (t : Term) → NamesOfTerms set ts → NamesOfTerms (bit_or set (name_set t)) (ts ++ t ∷ [])
