@@ -24,6 +24,7 @@ struct Stock {
 }
 
 /// One of the vector's terms with what it stands on, lowest first; the first `height` floors count.
+/// Of one size for all heights, since the row is made with no heap.
 #[derive(Clone, Copy)]
 struct Tower {
     floors: [u16; 8],

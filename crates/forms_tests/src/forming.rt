@@ -599,6 +599,7 @@ fn comes_out(heap: Global, case: &Case) -> Result<bool, Fail> {
 
 #[test]
 fn every_form_comes_out(rt: HostRuntime) -> Result<(), Fail> {
+    // A loop beside each table: a trait for the tables' cases would be longer.
     for case in &CASES {
         assert!(rt; comes_out(rt.alloc(), case)?, "{}", case.name);
     }

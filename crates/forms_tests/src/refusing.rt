@@ -331,6 +331,7 @@ fn comes_out(sheet: &Sheet, case: &Case) -> bool {
 #[test]
 fn other_memory_is_refused(rt: HostRuntime) -> Result<(), Fail> {
     let sheet = sheet_of(rt.alloc(), ONE)?;
+    // A loop beside each table: a trait for the tables' cases would be longer.
     for case in &CASES {
         assert!(rt; comes_out(&sheet, case), "{}", case.name);
     }

@@ -504,6 +504,7 @@ fn start_comes_out(heap: Global, case: &Start) -> Result<bool, Fail> {
     Ok(all && safe == case.safe && same_row(&sheet, &row, &memory.row_of(&case.row)))
 }
 
+// It goes as `forming::comes_out` does, but with other calls between the same steps: one function for both would be longer.
 fn branch_comes_out(heap: Global, case: &Branch) -> Result<bool, Fail> {
     let sheet = sheet_of(heap, case.sheet)?;
     let mut memory = Memory::empty(heap);
@@ -585,6 +586,7 @@ fn step_comes_out(heap: Global, case: &Step) -> Result<bool, Fail> {
 
 #[test]
 fn every_start_comes_out(rt: HostRuntime) -> Result<(), Fail> {
+    // A loop beside each table: a trait for the tables' cases would be longer.
     for case in &STARTING {
         assert!(rt; start_comes_out(rt.alloc(), case)?, "{}", case.name);
     }
@@ -593,6 +595,7 @@ fn every_start_comes_out(rt: HostRuntime) -> Result<(), Fail> {
 
 #[test]
 fn every_branch_comes_out(rt: HostRuntime) -> Result<(), Fail> {
+    // A loop beside each table: a trait for the tables' cases would be longer.
     for case in &BRANCHES {
         assert!(rt; branch_comes_out(rt.alloc(), case)?, "{}", case.name);
     }
@@ -601,6 +604,7 @@ fn every_branch_comes_out(rt: HostRuntime) -> Result<(), Fail> {
 
 #[test]
 fn every_step_comes_out(rt: HostRuntime) -> Result<(), Fail> {
+    // A loop beside each table: a trait for the tables' cases would be longer.
     for case in &STEPS {
         assert!(rt; step_comes_out(rt.alloc(), case)?, "{}", case.name);
     }
