@@ -29,176 +29,144 @@ use rows::{RowRecord, names_of_row};
 use sheet::Sheet;
 use std::alloc::AllocError;
 use std::io::Read;
-use terms::{Count, MOST_TERMS, Node, TermRecord};
-use writing::{front, write_conditions, write_fault, write_renaming, write_row};
+use terms::{Count, MOST_TERMS, TermRecord};
+use writing::{Answer, ConditionsView, RowView, Taking, front};
 
-/// The memory that the calls are lent.
+/// A sheet's step, with the memory that the calls are lent.
 #[derive(Drop)]
-struct Memory {
+struct Step<'a> {
+    sheet: &'a Sheet,
     bank: [TermRecord; MOST_TERMS],
     count: Count,
     labels: [u16; MOST_TERMS],
 }
 
-impl Memory {
-    fn empty() -> Memory {
-        let blank = TermRecord {
-            node: Node::Name(0),
-            height: 0,
-            names: 0,
-        };
-        Memory {
-            bank: [blank; MOST_TERMS],
+impl<'a> Step<'a> {
+    fn new(sheet: &'a Sheet) -> Step<'a> {
+        Step {
+            sheet,
+            bank: [TermRecord::BLANK; MOST_TERMS],
             count: Count { terms: 0 },
             labels: [0; MOST_TERMS],
         }
     }
-}
 
-fn is_impossible(memory: &mut Memory, conditions: &Conditions) -> Result<bool, TableFault> {
-    let used = front(&conditions.list, conditions.used as usize);
-    let verdict = decide(&memory.bank, memory.count, used, &mut memory.labels)?;
-    Ok(verdict.impossible)
-}
-
-// The form of the candidate at the sheet's height bound.
-fn form_of(
-    sheet: &Sheet,
-    memory: &mut Memory,
-    row: &RowRecord,
-    branch: u8,
-) -> Result<RowRecord, TableFault> {
-    let made = candidate(sheet, &mut memory.bank, &mut memory.count, row, branch)?;
-    form(
-        sheet,
-        &mut memory.bank,
-        &mut memory.count,
-        &made,
-        sheet.bound,
-    )
-}
-
-fn write_safety(
-    text: &mut String,
-    sheet: &Sheet,
-    memory: &mut Memory,
-    made: &RowRecord,
-) -> Result<(), AllocError> {
-    write!(text, " safe")?;
-    let answer = is_safe(
-        sheet,
-        &mut memory.bank,
-        &mut memory.count,
-        made,
-        &mut memory.labels,
-    );
-    match answer {
-        Ok(true) => write!(text, " yes\n"),
-        Ok(false) => write!(text, " no\n"),
-        Err(fault) => write_fault(text, fault),
+    fn first_row(&mut self) -> Result<RowRecord, TableFault> {
+        first_row(self.sheet, &mut self.bank, &mut self.count)
     }
-}
 
-fn write_taking(
-    text: &mut String,
-    sheet: &Sheet,
-    memory: &mut Memory,
-    row: &RowRecord,
-    made: &RowRecord,
-) -> Result<(), AllocError> {
-    write!(text, " taken")?;
-    let names = names_of_row(sheet, &memory.bank, row);
-    let answer = takes(
-        sheet,
-        &mut memory.bank,
-        &mut memory.count,
-        row,
-        made,
-        &mut memory.labels,
-    );
-    match answer {
-        Ok(Some(renaming)) => {
-            write!(text, " yes renaming")?;
-            write_renaming(text, names, renaming)?;
-            write!(text, "\n")
+    fn conditions(&mut self, row: &RowRecord, branch: u8) -> Result<Conditions, TableFault> {
+        branch_conditions(self.sheet, &mut self.bank, &mut self.count, row, branch)
+    }
+
+    fn is_impossible(&mut self, conditions: &Conditions) -> Result<bool, TableFault> {
+        let used = front(&conditions.list, conditions.used as usize);
+        let verdict = decide(&self.bank, self.count, used, &mut self.labels)?;
+        Ok(verdict.impossible)
+    }
+
+    // The form of the candidate at the sheet's height bound.
+    fn form(&mut self, row: &RowRecord, branch: u8) -> Result<RowRecord, TableFault> {
+        let sheet = self.sheet;
+        let made = candidate(sheet, &mut self.bank, &mut self.count, row, branch)?;
+        form(sheet, &mut self.bank, &mut self.count, &made, sheet.bound)
+    }
+
+    fn is_safe(&mut self, made: &RowRecord) -> Result<bool, TableFault> {
+        is_safe(
+            self.sheet,
+            &mut self.bank,
+            &mut self.count,
+            made,
+            &mut self.labels,
+        )
+    }
+
+    fn takes(&mut self, row: &RowRecord, made: &RowRecord) -> Result<Taking, TableFault> {
+        let names = names_of_row(self.sheet, &self.bank, row);
+        let renaming = takes(
+            self.sheet,
+            &mut self.bank,
+            &mut self.count,
+            row,
+            made,
+            &mut self.labels,
+        )?;
+        Ok(Taking { names, renaming })
+    }
+
+    fn view(&self, row: RowRecord) -> RowView<'_> {
+        RowView {
+            sheet: self.sheet,
+            bank: &self.bank,
+            row,
         }
-        Ok(None) => write!(text, " no\n"),
-        Err(fault) => write_fault(text, fault),
     }
 }
 
 fn write_form(
     text: &mut String,
-    sheet: &Sheet,
-    memory: &mut Memory,
+    step: &mut Step,
     row: &RowRecord,
     branch: u8,
 ) -> Result<(), AllocError> {
-    write!(text, "branch {branch} form")?;
-    let made = match form_of(sheet, memory, row, branch) {
-        Ok(made) => made,
-        Err(fault) => return write_fault(text, fault),
+    let made = step.form(row, branch);
+    let shown = Answer(made.map(|made| step.view(made)));
+    writeln!(text, "branch {branch} form {shown}")?;
+    let Ok(made) = made else {
+        return Ok(());
     };
-    write_row(text, sheet, &memory.bank, &made)?;
-    write!(text, "\nbranch {branch}")?;
-    write_safety(text, sheet, memory, &made)?;
-    write!(text, "branch {branch}")?;
-    write_taking(text, sheet, memory, row, &made)
+    let safe = Answer(
+        step.is_safe(&made)
+            .map(|safe| if safe { "yes" } else { "no" }),
+    );
+    writeln!(text, "branch {branch} safe {safe}")?;
+    let taken = Answer(step.takes(row, &made));
+    writeln!(text, "branch {branch} taken {taken}")
 }
 
 fn write_branch(
     text: &mut String,
-    sheet: &Sheet,
-    memory: &mut Memory,
+    step: &mut Step,
     row: &RowRecord,
     branch: u8,
 ) -> Result<(), AllocError> {
-    write!(text, "branch {branch} conditions")?;
-    let asked = branch_conditions(sheet, &mut memory.bank, &mut memory.count, row, branch);
-    let conditions = match asked {
-        Ok(conditions) => conditions,
-        Err(fault) => return write_fault(text, fault),
+    let asked = step.conditions(row, branch);
+    let bank = &step.bank;
+    let shown = Answer(asked.map(|conditions| ConditionsView { bank, conditions }));
+    writeln!(text, "branch {branch} conditions {shown}")?;
+    let Ok(conditions) = asked else {
+        return Ok(());
     };
-    let used = front(&conditions.list, conditions.used as usize);
-    write_conditions(text, &memory.bank, used)?;
-    write!(text, "\n")?;
-    match is_impossible(memory, &conditions) {
-        Ok(true) => write!(text, "branch {branch} impossible\n"),
-        Ok(false) => write_form(text, sheet, memory, row, branch),
-        Err(fault) => {
-            write!(text, "branch {branch}")?;
-            write_fault(text, fault)
-        }
+    let impossible = step.is_impossible(&conditions);
+    if impossible == Ok(false) {
+        return write_form(text, step, row, branch);
     }
+    let shown = Answer(impossible.map(|_| "impossible"));
+    writeln!(text, "branch {branch} {shown}")
 }
 
 // The terms of a branch leave the bank again before the next one.
-fn write_branches(
-    text: &mut String,
-    sheet: &Sheet,
-    memory: &mut Memory,
-    row: &RowRecord,
-) -> Result<(), AllocError> {
-    let questions = sheet.parts.questions.len();
+fn write_branches(text: &mut String, step: &mut Step, row: &RowRecord) -> Result<(), AllocError> {
+    let questions = step.sheet.parts.questions.len();
     let branches = 1u8 << questions.min(6);
-    let start = memory.count;
+    let start = step.count;
     for branch in 0..branches {
-        write_branch(text, sheet, memory, row, branch)?;
-        memory.count = start;
+        write_branch(text, step, row, branch)?;
+        step.count = start;
     }
     Ok(())
 }
 
 fn write_step(text: &mut String, sheet: &Sheet) -> Result<(), AllocError> {
-    let mut memory = Memory::empty();
-    write!(text, "row 0")?;
-    let row = match first_row(sheet, &mut memory.bank, &mut memory.count) {
-        Ok(row) => row,
-        Err(fault) => return write_fault(text, fault),
+    let mut step = Step::new(sheet);
+    let row = step.first_row();
+    let shown = Answer(row.map(|row| step.view(row)));
+    writeln!(text, "row 0 {shown}")?;
+    let Ok(row) = row else {
+        return Ok(());
     };
-    write_row(text, sheet, &memory.bank, &row)?;
-    write!(text, "\n")?;
-    write_branches(text, sheet, &mut memory, &row)
+    write_branches(text, &mut step, &row)
 }
 
 fn run(rt: &HostRuntime) -> anyhow::Result<()> {
@@ -209,7 +177,7 @@ fn run(rt: &HostRuntime) -> anyhow::Result<()> {
     let mut text = String::new(heap);
     match read(bytes.as_slice(), heap, &mut sheet) {
         Ok(()) => write_step(&mut text, &sheet)?,
-        Err(Failure::Fault(fault)) => write!(text, "{fault}\n")?,
+        Err(Failure::Fault(fault)) => writeln!(text, "{fault}")?,
         Err(Failure::Memory) => return Err(anyhow!("no memory is left")),
     }
     rt.print(text.as_str())?;

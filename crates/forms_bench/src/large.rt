@@ -8,6 +8,13 @@ const HEIGHTS: [usize; 6] = [8, 8, 7, 6, 5, 4];
 /// How many of the bank's terms stand in no term of the row.
 const OTHERS: u16 = 240;
 
+/// The lent bank that the terms are added to.
+#[derive(Drop)]
+struct Bank<'a> {
+    records: &'a mut [TermRecord],
+    count: &'a mut Count,
+}
+
 /// What the row's terms are made of: names, constants, and terms over both.
 #[derive(Clone, Copy)]
 struct Stock {
@@ -16,125 +23,135 @@ struct Stock {
     shared: [u16; 4],
 }
 
-/// The towers: each of the vector's terms with what it stands on, lowest first.
-type Towers = [[u16; 8]; 6];
-
-fn add_others(bank: &mut [TermRecord], count: &mut Count) -> Result<(), TableFault> {
-    let mut last = intern(bank, count, Node::Name(31))?;
-    for _ in 1..OTHERS {
-        last = intern(bank, count, Node::Unary(30, last))?;
-    }
-    Ok(())
-}
-
-fn add_stock(bank: &mut [TermRecord], count: &mut Count) -> Result<Stock, TableFault> {
-    let mut names = [0; 8];
-    let mut constants = [0; 8];
-    let mut shared = [0; 4];
-    for k in 0..8u8 {
-        names[k as usize] = intern(bank, count, Node::Name(k))?;
-    }
-    for k in 0..8u8 {
-        constants[k as usize] = intern(bank, count, Node::Constant(k))?;
-    }
-    for k in 0..4usize {
-        shared[k] = intern(bank, count, Node::Binary(2, names[k + 4], constants[k]))?;
-    }
-    Ok(Stock {
-        names,
-        constants,
-        shared,
-    })
-}
-
-fn add_tower(
-    bank: &mut [TermRecord],
-    count: &mut Count,
-    stock: Stock,
-    v: usize,
+/// One of the vector's terms with what it stands on, lowest first; the first `height` floors count.
+/// Of one size for all heights, since the row is made with no heap.
+#[derive(Clone, Copy)]
+struct Tower {
+    floors: [u16; 8],
     height: usize,
-) -> Result<[u16; 8], TableFault> {
-    let symbol = 3 + (v % 3) as u8;
-    let mut floors = [0; 8];
-    let mut top = intern(bank, count, Node::Unary(1, stock.names[v % 8]))?;
-    floors[0] = top;
-    for k in 1..height.min(8) {
-        let beside = if k + 1 < height {
-            stock.names[(v % 8 + k) % 8]
-        } else {
-            stock.shared[v % 4]
-        };
-        top = intern(bank, count, Node::Binary(symbol, top, beside))?;
-        floors[k] = top;
-    }
-    Ok(floors)
 }
 
-fn add_towers(
-    bank: &mut [TermRecord],
-    count: &mut Count,
-    stock: Stock,
-) -> Result<Towers, TableFault> {
-    let mut all = [[0; 8]; 6];
-    for v in 0..6usize {
-        all[v] = add_tower(bank, count, stock, v, HEIGHTS[v])?;
-    }
-    Ok(all)
-}
+impl Tower {
+    const BLANK: Tower = Tower {
+        floors: [0; 8],
+        height: 0,
+    };
 
-fn floor(towers: &Towers, v: usize, k: usize) -> u16 {
-    let floors = towers[v % 6];
-    floors[k % HEIGHTS[v % 6].min(8).max(1)]
-}
-
-fn add_right(
-    bank: &mut [TermRecord],
-    count: &mut Count,
-    stock: Stock,
-    towers: &Towers,
-    k: usize,
-) -> Result<u16, TableFault> {
-    let name = stock.names[k % 8];
-    if k % 5 == 4 {
-        return intern(
-            bank,
-            count,
-            Node::Binary(12, floor(towers, k % 6 + 1, 2), name),
-        );
+    /// The term at a floor, counted round.
+    fn floor(&self, k: usize) -> u16 {
+        at_or(&self.floors, k % self.height.max(1), 0)
     }
-    match k % 3 {
-        0 => Ok(stock.names[k % 8 * 5 % 8]),
-        1 => Ok(stock.constants[k % 8]),
-        _ => intern(bank, count, Node::Unary(20, name)),
+
+    fn top(&self) -> u16 {
+        at_or(&self.floors, self.height.saturating_sub(1), 0)
     }
 }
 
-fn add_conditions(
-    bank: &mut [TermRecord],
-    count: &mut Count,
-    stock: Stock,
-    towers: &Towers,
-) -> Result<[Condition; 22], TableFault> {
-    let mut list = RowRecord::BLANK.conditions;
-    for k in 0..22usize {
-        let left = floor(towers, k, k / 6);
-        let right = add_right(bank, count, stock, towers, k)?;
-        let sign = if k % 4 == 0 {
-            Sign::Different
-        } else {
-            Sign::Equal
-        };
-        list[k] = Condition { left, right, sign };
+impl Bank<'_> {
+    fn add(&mut self, node: Node) -> Result<u16, TableFault> {
+        intern(self.records, self.count, node)
     }
-    Ok(list)
-}
 
-fn tops(towers: &Towers) -> [u16; 6] {
-    let mut vector = [0; 6];
-    for v in 0..6usize {
-        vector[v] = at_or(&towers[v], HEIGHTS[v].max(1) - 1, 0);
+    fn add_others(&mut self) -> Result<(), TableFault> {
+        let mut last = self.add(Node::Name(31))?;
+        for _ in 1..OTHERS {
+            last = self.add(Node::Unary(30, last))?;
+        }
+        Ok(())
     }
-    vector
+
+    fn add_names(&mut self) -> Result<[u16; 8], TableFault> {
+        let mut names = [0; 8];
+        for (name, x) in names.iter_mut().zip(0..8u8) {
+            *name = self.add(Node::Name(x))?;
+        }
+        Ok(names)
+    }
+
+    fn add_constants(&mut self) -> Result<[u16; 8], TableFault> {
+        let mut constants = [0; 8];
+        for (constant, s) in constants.iter_mut().zip(0..8u8) {
+            *constant = self.add(Node::Constant(s))?;
+        }
+        Ok(constants)
+    }
+
+    fn add_stock(&mut self) -> Result<Stock, TableFault> {
+        let names = self.add_names()?;
+        let constants = self.add_constants()?;
+        let mut shared = [0; 4];
+        for (k, term) in shared.iter_mut().enumerate() {
+            *term = self.add(Node::Binary(2, names[k + 4], constants[k]))?;
+        }
+        Ok(Stock {
+            names,
+            constants,
+            shared,
+        })
+    }
+
+    fn add_tower(&mut self, stock: Stock, v: usize, height: usize) -> Result<Tower, TableFault> {
+        let symbol = 3 + (v % 3) as u8;
+        let mut floors = [0; 8];
+        let mut top = self.add(Node::Unary(1, stock.names[v % 8]))?;
+        floors[0] = top;
+        // By number, which also says what stands beside the floor below.
+        for k in 1..height.min(8) {
+            let beside = if k + 1 < height {
+                stock.names[(v % 8 + k) % 8]
+            } else {
+                stock.shared[v % 4]
+            };
+            top = self.add(Node::Binary(symbol, top, beside))?;
+            floors[k] = top;
+        }
+        Ok(Tower { floors, height })
+    }
+
+    fn add_towers(&mut self, stock: Stock) -> Result<[Tower; 6], TableFault> {
+        let mut towers = [Tower::BLANK; 6];
+        for (v, tower) in towers.iter_mut().enumerate() {
+            *tower = self.add_tower(stock, v, HEIGHTS[v])?;
+        }
+        Ok(towers)
+    }
+
+    fn add_right(
+        &mut self,
+        stock: Stock,
+        towers: &[Tower; 6],
+        k: usize,
+    ) -> Result<u16, TableFault> {
+        let name = stock.names[k % 8];
+        if k % 5 == 4 {
+            let floor = towers[(k % 6 + 1) % 6].floor(2);
+            return self.add(Node::Binary(12, floor, name));
+        }
+        match k % 3 {
+            0 => Ok(stock.names[k % 8 * 5 % 8]),
+            1 => Ok(stock.constants[k % 8]),
+            _ => self.add(Node::Unary(20, name)),
+        }
+    }
+
+    fn add_conditions(
+        &mut self,
+        stock: Stock,
+        towers: &[Tower; 6],
+    ) -> Result<[Condition; 22], TableFault> {
+        let mut list = [Condition::BLANK; 22];
+        for (k, condition) in list.iter_mut().enumerate() {
+            let left = towers[k % 6].floor(k / 6);
+            let right = self.add_right(stock, towers, k)?;
+            let sign = if k % 4 == 0 {
+                Sign::Different
+            } else {
+                Sign::Equal
+            };
+            *condition = Condition { left, right, sign };
+        }
+        Ok(list)
+    }
 }
 
 /// Adds the terms of the large row and others to an empty bank.
@@ -142,13 +159,17 @@ pub(crate) fn large_row(
     bank: &mut [TermRecord],
     count: &mut Count,
 ) -> Result<RowRecord, TableFault> {
-    add_others(bank, count)?;
-    let stock = add_stock(bank, count)?;
-    let towers = add_towers(bank, count, stock)?;
-    let conditions = add_conditions(bank, count, stock, &towers)?;
+    let mut bank = Bank {
+        records: bank,
+        count,
+    };
+    bank.add_others()?;
+    let stock = bank.add_stock()?;
+    let towers = bank.add_towers(stock)?;
+    let conditions = bank.add_conditions(stock, &towers)?;
     Ok(RowRecord {
         bits: [false; 16],
-        vector: tops(&towers),
+        vector: towers.map(|tower| tower.top()),
         conditions,
         used: 22,
     })

@@ -15,7 +15,7 @@ use rows::RowRecord;
 use sheet::Sheet;
 use std::env;
 use std::time::Instant;
-use terms::{Count, Node, TermRecord};
+use terms::{Count, MOST_TERMS, TermRecord};
 
 /// Six readings, and an invariant that is always true.
 const SHEET: &[u8] =
@@ -40,20 +40,9 @@ fn repeat_forms(
     Ok(added)
 }
 
-/// Tests the memory so many times, now and then without its last term; how many times it was a bank.
-fn repeat_tests(bank: &[TermRecord], terms: usize, times: u32) -> u32 {
-    let mut banks = 0u32;
-    for k in 0..times {
-        let tested = if k % 2 == 0 {
-            terms
-        } else {
-            terms.saturating_sub(1)
-        };
-        if is_bank(bank, tested) {
-            banks = banks.wrapping_add(1);
-        }
-    }
-    banks
+/// Tests the memory so many times, every second time without its last term; whether it was a bank each time.
+fn repeat_tests(bank: &[TermRecord], terms: usize, times: u32) -> bool {
+    (0..times).all(|k| is_bank(bank, terms.saturating_sub((k % 2) as usize)))
 }
 
 /// Nanoseconds for each of so many.
@@ -75,7 +64,7 @@ fn print_times(
     }
     let formed = each(start.elapsed(rt)?.as_nanos(), times);
     let start = Instant::now(rt)?;
-    if repeat_tests(bank, count.terms as usize, times) != times {
+    if !repeat_tests(bank, count.terms as usize, times) {
         return Err(anyhow!("the memory is no bank"));
     }
     let tested = each(start.elapsed(rt)?.as_nanos(), times);
@@ -90,11 +79,7 @@ fn measure(rt: &HostRuntime) -> anyhow::Result<()> {
     if read(SHEET, heap, &mut sheet).is_err() {
         return Err(anyhow!("the sheet has a fault"));
     }
-    let mut bank = [TermRecord {
-        node: Node::Name(0),
-        height: 0,
-        names: 0,
-    }; 512];
+    let mut bank = [TermRecord::BLANK; MOST_TERMS];
     let mut count = Count { terms: 0 };
     let Ok(row) = large_row(&mut bank, &mut count) else {
         return Err(anyhow!("the row has no room"));

@@ -1,12 +1,10 @@
 //! Forms of rows at a height.
-use crate::memory::{
-    ONE, THREE, TWO, Written, fill, load, no_records, row_of, same_records, same_row, sheet_of,
-};
+use crate::memory::{Memory, ONE, THREE, TWO, Written, same_first, same_row, sheet_of};
 use fault::TableFault;
 use folding::form;
 use std::alloc::Global;
 use std::test::Fail;
-use terms::{Count, Node, Sign};
+use terms::{Node, Sign};
 
 // The form of a row over `terms`, in a bank that other terms fill up to `filled`: the answer's terms are numbered on
 // through `more`, and the bank has `added` terms more than before.
@@ -572,37 +570,36 @@ static CASES: [Case; 21] = [
 
 fn comes_out(heap: Global, case: &Case) -> Result<bool, Fail> {
     let sheet = sheet_of(heap, case.sheet)?;
-    let mut bank = no_records();
-    let mut count = Count { terms: 0 };
-    let mut places = [u16::MAX; 40];
-    load(&mut bank, &mut count, &mut places, 0, case.terms)?;
-    fill(&mut bank, &mut count, case.filled)?;
-    let row = row_of(&case.row, &places);
-    let before = bank;
-    let terms = count.terms;
-    let answer = form(&sheet, &mut bank, &mut count, &row, case.height);
+    let mut memory = Memory::empty(heap);
+    memory.load(case.terms)?;
+    memory.fill(case.filled)?;
+    let row = memory.row_of(&case.row);
+    let before = memory.bank;
+    let terms = memory.count.terms;
+    let answer = form(
+        &sheet,
+        &mut memory.bank,
+        &mut memory.count,
+        &row,
+        case.height,
+    );
     let after = terms.saturating_add(case.added);
-    if count.terms != after || !same_records(&before, &bank, terms) {
+    if memory.count.terms != after || !same_first(&before, &memory.bank, terms as usize) {
         return Ok(false);
     }
     // the form's terms are in the bank
-    load(
-        &mut bank,
-        &mut count,
-        &mut places,
-        case.terms.len(),
-        case.more,
-    )?;
+    memory.load(case.more)?;
     let same = match (answer, &case.form) {
-        (Ok(made), Ok(written)) => same_row(&sheet, &made, &row_of(written, &places)),
+        (Ok(made), Ok(written)) => same_row(&sheet, &made, &memory.row_of(written)),
         (Err(found), Err(fault)) => found == *fault,
         _ => false,
     };
-    Ok(same && count.terms == after)
+    Ok(same && memory.count.terms == after)
 }
 
 #[test]
 fn every_form_comes_out(rt: HostRuntime) -> Result<(), Fail> {
+    // A loop beside each table: a trait for the tables' cases would be longer.
     for case in &CASES {
         assert!(rt; comes_out(rt.alloc(), case)?, "{}", case.name);
     }

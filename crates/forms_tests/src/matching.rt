@@ -1,13 +1,11 @@
 //! Older rows that take a form, and those that don't.
-use crate::memory::{
-    ONE, THREE, TWO, Written, fill, load, no_records, row_of, same_records, sheet_of,
-};
+use crate::memory::{Memory, ONE, THREE, TWO, Written, same_first, sheet_of};
 use fault::TableFault;
 use folding::takes;
 use rows::at_or;
 use std::alloc::Global;
 use std::test::Fail;
-use terms::{Count, Node, Sign};
+use terms::{MOST_TERMS, Node, Sign};
 
 // Two rows over `TERMS`, in a bank that other terms fill up to `filled`. The renaming is written as what x0, x1 and
 // so on become.
@@ -560,38 +558,43 @@ static CASES: [Case; 32] = [
 
 // The whole renaming: names that the older vector lacks become x0.
 fn is_written(found: &[u8], written: &[u8]) -> bool {
-    for x in 0..found.len() {
-        if found[x] != at_or(written, x, 0) {
-            return false;
-        }
-    }
-    true
+    found
+        .iter()
+        .enumerate()
+        .all(|(x, to)| *to == at_or(written, x, 0))
 }
 
 fn comes_out(heap: Global, case: &Case) -> Result<bool, Fail> {
     let sheet = sheet_of(heap, case.sheet)?;
-    let mut bank = no_records();
-    let mut count = Count { terms: 0 };
-    let mut places = [u16::MAX; 16];
-    let mut labels = [0; 512];
-    load(&mut bank, &mut count, &mut places, 0, TERMS)?;
-    fill(&mut bank, &mut count, case.filled)?;
-    let older = row_of(&case.older, &places);
-    let newer = row_of(&case.form, &places);
-    let before = bank;
-    let terms = count.terms;
-    let answer = takes(&sheet, &mut bank, &mut count, &older, &newer, &mut labels);
+    let mut memory = Memory::empty(heap);
+    let mut labels = [0; MOST_TERMS];
+    memory.load(TERMS)?;
+    memory.fill(case.filled)?;
+    let older = memory.row_of(&case.older);
+    let newer = memory.row_of(&case.form);
+    let before = memory.bank;
+    let terms = memory.count.terms;
+    let answer = takes(
+        &sheet,
+        &mut memory.bank,
+        &mut memory.count,
+        &older,
+        &newer,
+        &mut labels,
+    );
     let same = match (answer, case.answer) {
         (Ok(Some(renaming)), Ok(Some(written))) => is_written(&renaming.to, written),
         (Ok(None), Ok(None)) => true,
         (Err(found), Err(fault)) => found == fault,
         _ => false,
     };
-    Ok(same && count.terms == terms && same_records(&before, &bank, terms))
+    let kept = same_first(&before, &memory.bank, terms as usize);
+    Ok(same && memory.count.terms == terms && kept)
 }
 
 #[test]
 fn every_match_comes_out(rt: HostRuntime) -> Result<(), Fail> {
+    // A loop beside each table: a trait for the tables' cases would be longer.
     for case in &CASES {
         assert!(rt; comes_out(rt.alloc(), case)?, "{}", case.name);
     }

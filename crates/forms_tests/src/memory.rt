@@ -5,7 +5,7 @@ use rows::{RowRecord, at_or, bits_of, readings_of};
 use sheet::Sheet;
 use std::alloc::Global;
 use std::test::Fail;
-use terms::{Condition, Count, Node, Sign, TermRecord, intern, same_node};
+use terms::{Condition, Count, MOST_TERMS, Node, Sign, TermRecord, intern, with_places};
 
 // Sheets with one bit and one, two or three readings.
 pub(crate) const ONE: &[u8] = b"B\x00R\x00\x00L\x00\x00\x00V\x00H\x04E";
@@ -21,147 +21,94 @@ pub(crate) struct Written {
     pub(crate) conditions: &'static [(u16, Sign, u16)],
 }
 
+// As in the crate `bench_tests`: a crate for both would be longer.
 pub(crate) fn sheet_of(heap: Global, bytes: &[u8]) -> Result<Sheet, Fail> {
     let mut sheet = smallest(heap)?;
     read(bytes, heap, &mut sheet)?;
     Ok(sheet)
 }
 
-pub(crate) fn no_records() -> [TermRecord; 512] {
-    [TermRecord {
-        node: Node::Name(0),
-        height: 0,
-        names: 0,
-    }; 512]
+/// A bank, and the places in it of the terms that have numbers.
+#[derive(Drop)]
+pub(crate) struct Memory {
+    pub(crate) bank: [TermRecord; MOST_TERMS],
+    pub(crate) count: Count,
+    places: Vec<u16>,
 }
 
-fn place(places: &[u16], number: u16) -> u16 {
-    at_or(places, number as usize, u16::MAX)
-}
-
-/// The node over the places that the numbers in it have.
-fn placed(node: Node, places: &[u16]) -> Node {
-    match node {
-        Node::Name(x) => Node::Name(x),
-        Node::Constant(f) => Node::Constant(f),
-        Node::Unary(f, a) => Node::Unary(f, place(places, a)),
-        Node::Binary(f, a, b) => Node::Binary(f, place(places, a), place(places, b)),
-        Node::Ternary(f, a, b, c) => Node::Ternary(
-            f,
-            place(places, a),
-            place(places, b),
-            place(places, c),
-        ),
-    }
-}
-
-/// Adds terms, each over those before it by their numbers; the first of them has the number `from`.
-pub(crate) fn load(
-    bank: &mut [TermRecord],
-    count: &mut Count,
-    places: &mut [u16],
-    from: usize,
-    nodes: &[Node],
-) -> Result<(), TableFault> {
-    let mut n = from;
-    for node in nodes {
-        if n >= places.len() {
-            return Err(TableFault::BadMemory);
-        }
-        let made = placed(*node, places);
-        places[n] = intern(bank, count, made)?;
-        n += 1;
-    }
-    Ok(())
-}
-
-/// Adds terms that stand in no row, until the bank has `most`.
-pub(crate) fn fill(
-    bank: &mut [TermRecord],
-    count: &mut Count,
-    most: u16,
-) -> Result<(), TableFault> {
-    let mut last = 0;
-    for _ in count.terms..most {
-        last = intern(bank, count, Node::Unary(31, last))?;
-    }
-    Ok(())
-}
-
-fn vector_of(vector: &[u16], places: &[u16]) -> [u16; 6] {
-    let mut out = [0; 6];
-    for k in 0..vector.len() {
-        if k < 6 {
-            out[k] = place(places, vector[k]);
+impl Memory {
+    pub(crate) fn empty(heap: Global) -> Memory {
+        Memory {
+            bank: [TermRecord::BLANK; MOST_TERMS],
+            count: Count { terms: 0 },
+            places: Vec::new(heap),
         }
     }
-    out
-}
 
-fn conditions_of(conditions: &[(u16, Sign, u16)], places: &[u16]) -> [Condition; 22] {
-    let mut out = RowRecord::BLANK.conditions;
-    for k in 0..conditions.len() {
-        if k < 22 {
-            let (left, sign, right) = conditions[k];
-            out[k] = Condition {
-                left: place(places, left),
-                right: place(places, right),
+    /// Adds terms, each over those before it by their numbers, and numbers them on.
+    pub(crate) fn load(&mut self, nodes: &[Node]) -> Result<(), Fail> {
+        for node in nodes {
+            let made = with_places(*node, self.places.as_slice()).ok_or(TableFault::BadMemory)?;
+            let place = intern(&mut self.bank, &mut self.count, made)?;
+            self.places.push(place)?;
+        }
+        Ok(())
+    }
+
+    /// Adds terms that stand in no row, until the bank has `most`.
+    pub(crate) fn fill(&mut self, most: u16) -> Result<(), TableFault> {
+        let mut last = 0;
+        for _ in self.count.terms..most {
+            last = intern(&mut self.bank, &mut self.count, Node::Unary(31, last))?;
+        }
+        Ok(())
+    }
+
+    fn place(&self, number: u16) -> u16 {
+        at_or(self.places.as_slice(), number as usize, u16::MAX)
+    }
+
+    fn vector_of(&self, written: &[u16]) -> [u16; 6] {
+        let mut vector = [0; 6];
+        for (place, number) in vector.iter_mut().zip(written) {
+            *place = self.place(*number);
+        }
+        vector
+    }
+
+    fn conditions_of(&self, written: &[(u16, Sign, u16)]) -> [Condition; 22] {
+        let mut conditions = [Condition::BLANK; 22];
+        for (condition, sides) in conditions.iter_mut().zip(written) {
+            let (left, sign, right) = *sides;
+            *condition = Condition {
+                left: self.place(left),
+                right: self.place(right),
                 sign,
             };
         }
+        conditions
     }
-    out
-}
 
-/// The record of a row, where the terms have these places.
-pub(crate) fn row_of(written: &Written, places: &[u16]) -> RowRecord {
-    RowRecord {
-        bits: [written.bits; 16],
-        vector: vector_of(written.vector, places),
-        conditions: conditions_of(written.conditions, places),
-        used: written.conditions.len().min(255) as u8,
-    }
-}
-
-fn same_condition(a: Condition, b: Condition) -> bool {
-    let same_sign = match (a.sign, b.sign) {
-        (Sign::Equal, Sign::Equal) => true,
-        (Sign::Different, Sign::Different) => true,
-        _ => false,
-    };
-    a.left == b.left && a.right == b.right && same_sign
-}
-
-/// Whether the first `used` conditions are the same.
-pub(crate) fn same_conditions(a: &[Condition], b: &[Condition], used: usize) -> bool {
-    for k in 0..used {
-        if k >= a.len() || k >= b.len() || !same_condition(a[k], b[k]) {
-            return false;
+    /// The record of a row, by the places of its terms.
+    pub(crate) fn row_of(&self, written: &Written) -> RowRecord {
+        RowRecord {
+            bits: [written.bits; 16],
+            vector: self.vector_of(written.vector),
+            conditions: self.conditions_of(written.conditions),
+            used: written.conditions.len().min(255) as u8,
         }
     }
-    true
+}
+
+/// Whether both have so many elements, and the same ones.
+pub(crate) fn same_first<T: PartialEq>(a: &[T], b: &[T], used: usize) -> bool {
+    used <= a.len() && used <= b.len() && a[..used] == b[..used]
 }
 
 /// Whether two records stand for one row of the sheet.
 pub(crate) fn same_row(sheet: &Sheet, a: &RowRecord, b: &RowRecord) -> bool {
-    let bits = bits_of(sheet).min(16);
-    let readings = readings_of(sheet).min(6);
-    a.bits[..bits] == b.bits[..bits]
-        && a.vector[..readings] == b.vector[..readings]
+    same_first(&a.bits, &b.bits, bits_of(sheet).min(16))
+        && same_first(&a.vector, &b.vector, readings_of(sheet).min(6))
         && a.used == b.used
-        && same_conditions(&a.conditions, &b.conditions, a.used as usize)
-}
-
-fn same_record(a: TermRecord, b: TermRecord) -> bool {
-    same_node(a.node, b.node) && a.height == b.height && a.names == b.names
-}
-
-/// Whether the first `used` records are the same.
-pub(crate) fn same_records(a: &[TermRecord], b: &[TermRecord], used: u16) -> bool {
-    for k in 0..used as usize {
-        if k >= a.len() || k >= b.len() || !same_record(a[k], b[k]) {
-            return false;
-        }
-    }
-    true
+        && same_first(&a.conditions, &b.conditions, a.used as usize)
 }

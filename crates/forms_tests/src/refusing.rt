@@ -1,15 +1,14 @@
 //! Memory that holds no bank or no row.
-use crate::memory::{ONE, no_records, same_records, sheet_of};
+use crate::memory::{ONE, same_first, sheet_of};
 use fault::TableFault;
 use folding::{form, takes};
 use rows::RowRecord;
 use sheet::Sheet;
 use std::test::Fail;
-use terms::{Condition, Count, Node, Sign, TermRecord};
+use terms::{Condition, Count, MOST_TERMS, Node, Sign, TermRecord};
 
 // Records as they stand, in a bank of so many places; the row has this place in its vector and this condition, of
-// which it has so many. Where there is no form, or the row does not take itself, the memory is refused as bad, and
-// nothing is changed.
+// which it has so many. There is a form and the row takes itself, or the memory is refused as bad; nothing is changed.
 struct Case {
     name: &'static str,
     records: &'static [(Node, u16, u32)],
@@ -19,8 +18,8 @@ struct Case {
     place: u16,
     condition: (u16, u16),
     used: u8,
-    forms: bool,
-    takes: bool,
+    forms: Result<(), TableFault>,
+    takes: Result<bool, TableFault>,
 }
 
 static CASES: [Case; 20] = [
@@ -33,8 +32,8 @@ static CASES: [Case; 20] = [
         place: 1,
         condition: (0, 1),
         used: 1,
-        forms: true,
-        takes: true,
+        forms: Ok(()),
+        takes: Ok(true),
     },
     Case {
         name: "a repeated name",
@@ -45,8 +44,8 @@ static CASES: [Case; 20] = [
         place: 0,
         condition: (0, 0),
         used: 1,
-        forms: false,
-        takes: false,
+        forms: Err(TableFault::BadMemory),
+        takes: Err(TableFault::BadMemory),
     },
     Case {
         name: "a repeated term",
@@ -61,8 +60,8 @@ static CASES: [Case; 20] = [
         place: 0,
         condition: (0, 0),
         used: 1,
-        forms: false,
-        takes: false,
+        forms: Err(TableFault::BadMemory),
+        takes: Err(TableFault::BadMemory),
     },
     Case {
         name: "a repeated term past the count",
@@ -77,8 +76,8 @@ static CASES: [Case; 20] = [
         place: 1,
         condition: (0, 0),
         used: 1,
-        forms: true,
-        takes: true,
+        forms: Ok(()),
+        takes: Ok(true),
     },
     Case {
         name: "a wrong height",
@@ -89,8 +88,8 @@ static CASES: [Case; 20] = [
         place: 0,
         condition: (0, 0),
         used: 1,
-        forms: false,
-        takes: false,
+        forms: Err(TableFault::BadMemory),
+        takes: Err(TableFault::BadMemory),
     },
     Case {
         name: "wrong names",
@@ -101,8 +100,8 @@ static CASES: [Case; 20] = [
         place: 0,
         condition: (0, 0),
         used: 1,
-        forms: false,
-        takes: false,
+        forms: Err(TableFault::BadMemory),
+        takes: Err(TableFault::BadMemory),
     },
     Case {
         name: "name 32",
@@ -113,8 +112,8 @@ static CASES: [Case; 20] = [
         place: 0,
         condition: (0, 0),
         used: 1,
-        forms: false,
-        takes: false,
+        forms: Err(TableFault::BadMemory),
+        takes: Err(TableFault::BadMemory),
     },
     Case {
         name: "an argument behind its term",
@@ -125,8 +124,8 @@ static CASES: [Case; 20] = [
         place: 0,
         condition: (0, 0),
         used: 1,
-        forms: false,
-        takes: false,
+        forms: Err(TableFault::BadMemory),
+        takes: Err(TableFault::BadMemory),
     },
     Case {
         name: "a vector place past the count",
@@ -137,8 +136,8 @@ static CASES: [Case; 20] = [
         place: 1,
         condition: (0, 0),
         used: 1,
-        forms: false,
-        takes: false,
+        forms: Err(TableFault::BadMemory),
+        takes: Err(TableFault::BadMemory),
     },
     Case {
         name: "a left side past the count",
@@ -149,8 +148,8 @@ static CASES: [Case; 20] = [
         place: 0,
         condition: (1, 0),
         used: 1,
-        forms: false,
-        takes: false,
+        forms: Err(TableFault::BadMemory),
+        takes: Err(TableFault::BadMemory),
     },
     Case {
         name: "a right side past the count",
@@ -161,8 +160,8 @@ static CASES: [Case; 20] = [
         place: 0,
         condition: (0, 1),
         used: 1,
-        forms: false,
-        takes: false,
+        forms: Err(TableFault::BadMemory),
+        takes: Err(TableFault::BadMemory),
     },
     Case {
         name: "a condition that is not used",
@@ -173,8 +172,8 @@ static CASES: [Case; 20] = [
         place: 0,
         condition: (7, 7),
         used: 0,
-        forms: true,
-        takes: true,
+        forms: Ok(()),
+        takes: Ok(true),
     },
     Case {
         name: "22 conditions are for a form alone",
@@ -185,8 +184,8 @@ static CASES: [Case; 20] = [
         place: 0,
         condition: (0, 0),
         used: 22,
-        forms: true,
-        takes: false,
+        forms: Ok(()),
+        takes: Err(TableFault::BadMemory),
     },
     Case {
         name: "17 conditions are for a form alone",
@@ -197,8 +196,8 @@ static CASES: [Case; 20] = [
         place: 0,
         condition: (0, 0),
         used: 17,
-        forms: true,
-        takes: false,
+        forms: Ok(()),
+        takes: Err(TableFault::BadMemory),
     },
     Case {
         name: "16 conditions",
@@ -209,8 +208,8 @@ static CASES: [Case; 20] = [
         place: 0,
         condition: (0, 0),
         used: 16,
-        forms: true,
-        takes: true,
+        forms: Ok(()),
+        takes: Ok(true),
     },
     Case {
         name: "23 conditions",
@@ -221,8 +220,8 @@ static CASES: [Case; 20] = [
         place: 0,
         condition: (0, 0),
         used: 23,
-        forms: false,
-        takes: false,
+        forms: Err(TableFault::BadMemory),
+        takes: Err(TableFault::BadMemory),
     },
     Case {
         name: "no term",
@@ -233,8 +232,8 @@ static CASES: [Case; 20] = [
         place: 0,
         condition: (0, 0),
         used: 1,
-        forms: false,
-        takes: false,
+        forms: Err(TableFault::BadMemory),
+        takes: Err(TableFault::BadMemory),
     },
     Case {
         name: "more terms than places",
@@ -245,8 +244,8 @@ static CASES: [Case; 20] = [
         place: 0,
         condition: (0, 0),
         used: 1,
-        forms: false,
-        takes: false,
+        forms: Err(TableFault::BadMemory),
+        takes: Err(TableFault::BadMemory),
     },
     Case {
         name: "a bank of 511 places",
@@ -257,8 +256,8 @@ static CASES: [Case; 20] = [
         place: 0,
         condition: (0, 0),
         used: 1,
-        forms: false,
-        takes: false,
+        forms: Err(TableFault::BadMemory),
+        takes: Err(TableFault::BadMemory),
     },
     Case {
         name: "too few labels",
@@ -269,24 +268,27 @@ static CASES: [Case; 20] = [
         place: 0,
         condition: (0, 0),
         used: 1,
-        forms: true,
-        takes: false,
+        forms: Ok(()),
+        takes: Err(TableFault::BadMemory),
     },
 ];
 
-fn records_of(case: &Case) -> [TermRecord; 512] {
-    let mut bank = no_records();
-    for k in 0..case.records.len() {
-        if k < 512 {
-            let (node, height, names) = case.records[k];
-            bank[k] = TermRecord {
-                node,
-                height,
-                names,
-            };
-        }
+fn records_of(case: &Case) -> [TermRecord; MOST_TERMS] {
+    let mut bank = [TermRecord::BLANK; MOST_TERMS];
+    for (record, written) in bank.iter_mut().zip(case.records) {
+        let (node, height, names) = *written;
+        *record = TermRecord {
+            node,
+            height,
+            names,
+        };
     }
     bank
+}
+
+// Whether the bank is as it was.
+fn is_kept(bank: &[TermRecord], count: Count, case: &Case) -> bool {
+    count.terms == case.terms && same_first(&records_of(case), bank, case.length as usize)
 }
 
 fn row_of(case: &Case) -> RowRecord {
@@ -305,21 +307,15 @@ fn row_of(case: &Case) -> RowRecord {
 
 fn forms_as_said(sheet: &Sheet, bank: &mut [TermRecord], case: &Case) -> bool {
     let mut count = Count { terms: case.terms };
-    let right = match form(sheet, bank, &mut count, &row_of(case), 4) {
-        Ok(_) => case.forms,
-        Err(fault) => !case.forms && fault == TableFault::BadMemory,
-    };
-    right && count.terms == case.terms && same_records(&records_of(case), bank, case.length)
+    let answer = form(sheet, bank, &mut count, &row_of(case), 4);
+    answer.map(|_| ()) == case.forms && is_kept(bank, count, case)
 }
 
 fn takes_as_said(sheet: &Sheet, bank: &mut [TermRecord], labels: &mut [u16], case: &Case) -> bool {
     let mut count = Count { terms: case.terms };
     let row = row_of(case);
-    let right = match takes(sheet, bank, &mut count, &row, &row, labels) {
-        Ok(found) => case.takes && found.is_some(),
-        Err(fault) => !case.takes && fault == TableFault::BadMemory,
-    };
-    right && count.terms == case.terms && same_records(&records_of(case), bank, case.length)
+    let answer = takes(sheet, bank, &mut count, &row, &row, labels);
+    answer.map(|found| found.is_some()) == case.takes && is_kept(bank, count, case)
 }
 
 fn comes_out(sheet: &Sheet, case: &Case) -> bool {
@@ -335,6 +331,7 @@ fn comes_out(sheet: &Sheet, case: &Case) -> bool {
 #[test]
 fn other_memory_is_refused(rt: HostRuntime) -> Result<(), Fail> {
     let sheet = sheet_of(rt.alloc(), ONE)?;
+    // A loop beside each table: a trait for the tables' cases would be longer.
     for case in &CASES {
         assert!(rt; comes_out(&sheet, case), "{}", case.name);
     }

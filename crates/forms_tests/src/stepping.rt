@@ -1,15 +1,12 @@
 //! Row 0, candidates, and how a sheet's first steps go on: their forms, whether these are safe, and whether row 0
 //! takes them.
-use crate::memory::{
-    Written, fill, load, no_records, row_of, same_conditions, same_records, same_row, sheet_of,
-};
+use crate::memory::{Memory, Written, same_first, same_row, sheet_of};
 use candidates::{branch_conditions, candidate, first_row, is_safe};
 use fault::TableFault;
 use folding::{form, takes};
-use sheet::Sheet;
 use std::alloc::Global;
 use std::test::Fail;
-use terms::{Count, Node, Sign, TermRecord};
+use terms::{MOST_TERMS, Node, Sign};
 
 // One bit that the input raises for good where it is c; as it does, reading 1 becomes f of reading 0, as which it is
 // claimed while the bit is raised.
@@ -491,71 +488,105 @@ static STEPS: [Step; 4] = [
 
 fn start_comes_out(heap: Global, case: &Start) -> Result<bool, Fail> {
     let sheet = sheet_of(heap, case.sheet)?;
-    let mut bank = no_records();
-    let mut count = Count { terms: 0 };
-    let row = first_row(&sheet, &mut bank, &mut count)?;
-    let terms = count.terms;
-    let mut places = [u16::MAX; 2];
-    load(&mut bank, &mut count, &mut places, 0, case.terms)?;
-    let mut labels = [0; 512];
-    let safe = is_safe(&sheet, &mut bank, &mut count, &row, &mut labels)?;
-    let all = terms as usize == case.terms.len() && count.terms == terms;
-    Ok(all && safe == case.safe && same_row(&sheet, &row, &row_of(&case.row, &places)))
+    let mut memory = Memory::empty(heap);
+    let row = first_row(&sheet, &mut memory.bank, &mut memory.count)?;
+    let terms = memory.count.terms;
+    memory.load(case.terms)?;
+    let mut labels = [0; MOST_TERMS];
+    let safe = is_safe(
+        &sheet,
+        &mut memory.bank,
+        &mut memory.count,
+        &row,
+        &mut labels,
+    )?;
+    let all = terms as usize == case.terms.len() && memory.count.terms == terms;
+    Ok(all && safe == case.safe && same_row(&sheet, &row, &memory.row_of(&case.row)))
 }
 
+// It goes as `forming::comes_out` does, but with other calls between the same steps: one function for both would be longer.
 fn branch_comes_out(heap: Global, case: &Branch) -> Result<bool, Fail> {
     let sheet = sheet_of(heap, case.sheet)?;
-    let mut bank = no_records();
-    let mut count = Count { terms: 0 };
-    let mut places = [u16::MAX; 40];
-    load(&mut bank, &mut count, &mut places, 0, case.terms)?;
-    fill(&mut bank, &mut count, case.filled)?;
-    let row = row_of(&case.row, &places);
-    let before = bank;
-    let terms = count.terms;
-    let answer = candidate(&sheet, &mut bank, &mut count, &row, case.branch);
+    let mut memory = Memory::empty(heap);
+    memory.load(case.terms)?;
+    memory.fill(case.filled)?;
+    let row = memory.row_of(&case.row);
+    let before = memory.bank;
+    let terms = memory.count.terms;
+    let answer = candidate(
+        &sheet,
+        &mut memory.bank,
+        &mut memory.count,
+        &row,
+        case.branch,
+    );
     let after = terms.saturating_add(case.added);
-    if count.terms != after || !same_records(&before, &bank, terms) {
+    if memory.count.terms != after || !same_first(&before, &memory.bank, terms as usize) {
         return Ok(false);
     }
     // the candidate's terms are in the bank, so that its conditions alone add none
-    let alone = branch_conditions(&sheet, &mut bank, &mut count, &row, case.branch);
-    load(
-        &mut bank,
-        &mut count,
-        &mut places,
-        case.terms.len(),
-        case.more,
-    )?;
+    let alone = branch_conditions(
+        &sheet,
+        &mut memory.bank,
+        &mut memory.count,
+        &row,
+        case.branch,
+    );
+    memory.load(case.more)?;
     let same = match (answer, alone, &case.candidate) {
         (Ok(made), Ok(asked), Ok(written)) => {
-            same_row(&sheet, &made, &row_of(written, &places))
+            same_row(&sheet, &made, &memory.row_of(written))
                 && asked.used == made.used
-                && same_conditions(&asked.list, &made.conditions, made.used as usize)
+                && same_first(&asked.list, &made.conditions, made.used as usize)
         }
         (Err(found), Err(other), Err(fault)) => found == *fault && other == *fault,
         _ => false,
     };
-    Ok(same && count.terms == after)
+    Ok(same && memory.count.terms == after)
 }
 
-fn step_comes_out(sheet: &Sheet, case: &Step) -> Result<bool, Fail> {
-    let mut bank = no_records();
-    let mut count = Count { terms: 0 };
-    let mut labels = [0; 512];
-    let mut places = [u16::MAX; 3];
-    let first = first_row(sheet, &mut bank, &mut count)?;
-    let made = candidate(sheet, &mut bank, &mut count, &first, case.branch)?;
-    let low = form(sheet, &mut bank, &mut count, &made, case.height)?;
-    let safe = is_safe(sheet, &mut bank, &mut count, &low, &mut labels)?;
-    let taken = takes(sheet, &mut bank, &mut count, &first, &low, &mut labels)?;
-    load(&mut bank, &mut count, &mut places, 0, FIRST_TERMS)?;
-    let same = same_row(sheet, &low, &row_of(&case.form, &places));
+fn step_comes_out(heap: Global, case: &Step) -> Result<bool, Fail> {
+    let sheet = sheet_of(heap, HOPPER)?;
+    let mut memory = Memory::empty(heap);
+    let mut labels = [0; MOST_TERMS];
+    let first = first_row(&sheet, &mut memory.bank, &mut memory.count)?;
+    let made = candidate(
+        &sheet,
+        &mut memory.bank,
+        &mut memory.count,
+        &first,
+        case.branch,
+    )?;
+    let low = form(
+        &sheet,
+        &mut memory.bank,
+        &mut memory.count,
+        &made,
+        case.height,
+    )?;
+    let safe = is_safe(
+        &sheet,
+        &mut memory.bank,
+        &mut memory.count,
+        &low,
+        &mut labels,
+    )?;
+    let taken = takes(
+        &sheet,
+        &mut memory.bank,
+        &mut memory.count,
+        &first,
+        &low,
+        &mut labels,
+    )?;
+    memory.load(FIRST_TERMS)?;
+    let same = same_row(&sheet, &low, &memory.row_of(&case.form));
     Ok(same && safe == case.safe && taken.is_some() == case.taken)
 }
 
 #[test]
 fn every_start_comes_out(rt: HostRuntime) -> Result<(), Fail> {
+    // A loop beside each table: a trait for the tables' cases would be longer.
     for case in &STARTING {
         assert!(rt; start_comes_out(rt.alloc(), case)?, "{}", case.name);
     }
@@ -564,6 +595,7 @@ fn every_start_comes_out(rt: HostRuntime) -> Result<(), Fail> {
 
 #[test]
 fn every_branch_comes_out(rt: HostRuntime) -> Result<(), Fail> {
+    // A loop beside each table: a trait for the tables' cases would be longer.
     for case in &BRANCHES {
         assert!(rt; branch_comes_out(rt.alloc(), case)?, "{}", case.name);
     }
@@ -572,9 +604,9 @@ fn every_branch_comes_out(rt: HostRuntime) -> Result<(), Fail> {
 
 #[test]
 fn every_step_comes_out(rt: HostRuntime) -> Result<(), Fail> {
-    let sheet = sheet_of(rt.alloc(), HOPPER)?;
+    // A loop beside each table: a trait for the tables' cases would be longer.
     for case in &STEPS {
-        assert!(rt; step_comes_out(&sheet, case)?, "{}", case.name);
+        assert!(rt; step_comes_out(rt.alloc(), case)?, "{}", case.name);
     }
     Ok(())
 }
