@@ -24,7 +24,7 @@ use Rattle.candidates.specs.declared.conditions.Conditions.{Conditions}
 use Rattle.candidates.specs.Outcome.{Lists, StandsFor}
 use Rattle.candidates.specs.Working.{Recalls, Started, Over, Added, Made, Vectored, Joined, Walks, next_over}
 use Rattle.candidates.proofs.Walking.{over_later}
-use Rattle.candidates.proofs.Listing.{numbered-length}
+use Rattle.sheet.proofs.Numbering.{numbered-length}
 use Rattle.candidates.proofs.Composing.{recalls_none, vectored_map, joined_lists, gained_both, overfull_both, overfull_first, overfull_second, gained_row, joined_later}
 
 module _ (s : System) (rs : List TermRecord) (n : ℕ) (row : RowRecord) (sound : Sound s rs n 16 row) (few : length s.questions ≤ 6) (names : List ℕ) (small : (k : ℕ) → get_or names k 0 < 32) (b : ℕ) where

@@ -17,7 +17,8 @@ use Rattle.forms.proofs.Branches.{answers_long}
 use Rattle.candidates.specs.Working.{Stands, Listed, no_literal}
 use Rattle.candidates.specs.Cases.{with_answer, Laid, Breaks}
 use Rattle.candidates.proofs.Composing.{listed-map}
-use Rattle.candidates.proofs.Listing.{numbered_at, numbered-length, literal_same, no_equation}
+use Rattle.sheet.proofs.Numbering.{numbered_at, numbered-length}
+use Rattle.candidates.proofs.Listing.{literal_same, no_equation}
 
 pub answered : (c d : Condition) (s : Sign) (a : Bool) → c ≡ d → s ≡ sign_of a → ◌≡◌ {A = Condition} (record { left = c.left; right = c.right; sign = s }) (with_answer d a)
 answered c d s a p q = λ i. record { left = (p i).left; right = (p i).right; sign = q i }

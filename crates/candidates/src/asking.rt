@@ -13,6 +13,7 @@ use rows::{MOST_CANDIDATE_CONDITIONS, at_or};
 use sheet::Equation;
 use terms::{Condition, Count, Sign, TermRecord};
 
+// A function and no `From`, since the sign is a type of another crate.
 pub(crate) fn sign_of(answer: bool) -> Sign
     ensures { result ≡ sign_of answer }
 {

@@ -11,16 +11,13 @@ ghost use Rattle.candidates.specs.Working.{Walks, Added, Joined};
 use crate::answers::answers_of;
 use crate::asking::{append, ask};
 use crate::conditions::Conditions;
-use crate::instantiating::Given;
+use crate::instantiating::{Given, MOST_SHEET_TERMS};
 use crate::resolving::resolve;
 use crate::successor::next_vector;
 use fault::TableFault;
 use rows::{RowRecord, bits_of};
 use sheet::{Equation, Reading, Sheet};
 use terms::{Condition, Count, TermRecord};
-
-// How many terms are remembered: as many as a sheet can have.
-const MOST: usize = 64;
 
 pub(crate) fn questions_of(sheet: &Sheet) -> usize
     ensures { result ≡ length (sheet_of sheet.now).questions }
@@ -61,7 +58,7 @@ pub(crate) fn build_conditions<'a>(
     let asked = questions_of(sheet);
     let answers = &answers_of(branch)[..asked];
     let given = Given::over(sheet, &row.vector, names);
-    let mut known = [None; MOST];
+    let mut known = [None; MOST_SHEET_TERMS];
     let own = &row.conditions[..row.used as usize];
     conditions_of(sheet, given, bank, count, &mut known, own, answers)
 }
@@ -82,7 +79,7 @@ pub(crate) fn build<'a>(
     let asked = questions_of(sheet);
     let answers = &answers_of(branch)[..asked];
     let given = Given::over(sheet, &row.vector, names);
-    let mut known = [None; MOST];
+    let mut known = [None; MOST_SHEET_TERMS];
     let own = &row.conditions[..row.used as usize];
     let conditions = conditions_of(sheet, given, bank, count, &mut known, own, answers)?;
     let bits = &row.bits[..bits_of(sheet)];

@@ -67,6 +67,7 @@ pub fn branch_conditions(
     or_restored(count, before, made)
 }
 
+// Not one function with `branch_conditions`: what is built, and what it asks, is another thing in each.
 /// The candidate of a row on a branch.
 pub fn candidate(
     sheet: &Sheet,

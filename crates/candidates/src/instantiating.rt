@@ -14,7 +14,11 @@ use rows::{at_or, readings_of};
 use sheet::{Args, Sheet, Term, TermEntry, recall, remember};
 use terms::{Count, Node, TermRecord, intern};
 
+/// How many terms are remembered: as many as a sheet can have.
+pub(crate) const MOST_SHEET_TERMS: usize = 64;
+
 /// The sheet's terms, the places of a row's vector and the names of the inputs.
+// Bank, count and what is known are not in it: they are lent anew to each call.
 #[derive(Clone, Copy)]
 pub(crate) struct Given<'a> {
     pub(crate) terms: &'a [TermEntry],
@@ -78,22 +82,19 @@ fn place_below(
 ) -> Result<u16, TableFault>
     ensures { Walks given.entry.terms.now given.entry.vector.now given.entry.inputs.now bank.old count.old.terms known.old (λ v values. before no_term values n below ∷ []) bank.new count.new.terms known.new (λ v values. At bank.new count.new.terms (before no_term values n below)) result }
 {
-    if n >= below {
-        return intern(bank, count, Node::Name(0));
-    }
-    if n >= given.terms.len() {
+    if n >= below || n >= given.terms.len() {
         return intern(bank, count, Node::Name(0));
     }
     if let Some(place) = recall(known, n) {
         return Ok(place);
     }
-    let term = given.terms[n].term;
-    match term {
+    match given.terms[n].term {
         Term::Reading(r) => reading_place(given, bank, count, r as usize),
         Term::Input(i) => {
             let name = at_or(given.inputs, i as usize, 0);
             add(bank, count, known, n, Node::Name(name))
         }
+        // A match of its own, so that the arms' numbers are read from the arguments alone.
         Term::Apply(f, args) => match args {
             Args::Zero => add(bank, count, known, n, Node::Constant(f)),
             Args::One(a) => {

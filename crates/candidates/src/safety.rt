@@ -14,15 +14,12 @@ ghost use Rattle.candidates.specs.Outcome.{Kept};
 use crate::answers::answers_of;
 use crate::asking::{append, ask, sign_of};
 use crate::conditions::Conditions;
-use crate::instantiating::Given;
+use crate::instantiating::{Given, MOST_SHEET_TERMS};
 use closure::decide;
 use fault::TableFault;
 use rows::{MOST_CONDITIONS, RowRecord, bits_of, is_sound};
 use sheet::{Equation, Sheet};
 use terms::{Condition, Count, CountGuard, MOST_TERMS, TermRecord};
-
-// How many terms a sheet can have.
-const MOST_SHEET_TERMS: usize = 64;
 
 // The conditions, the first of them with the signs of the answers.
 fn signed(mut list: [Condition; 22], answers: &[bool]) -> [Condition; 22]

@@ -9,7 +9,8 @@ use Rattle.forms.specs.Candidate.{terms_over, condition_of}
 use Rattle.forms.specs.Counted.{sides_of}
 use Rattle.candidates.specs.Working.{Made, Joined}
 use Rattle.candidates.proofs.Lawfully.{few_questions}
-use Rattle.candidates.proofs.Listing.{added_break, joined, numbered-length}
+use Rattle.sheet.proofs.Numbering.{numbered-length}
+use Rattle.candidates.proofs.Listing.{added_break, joined}
 use Rattle.candidates.proofs.building.conditions_of.Goals as goal
 
 pub ask-requires : goal.ask-requires
