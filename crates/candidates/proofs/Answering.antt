@@ -1,10 +1,12 @@
 -- What the calls answer, from what is built, and the same with the terms counted.
-use Rattle.std.proofs.Common.{◌≡◌, ℕ, zero, suc, ◌<◌, ◌≤◌, Bool, List, [], ◌∷◌, ◌++◌, map, length, get_or, take, IsErrAnd, Some, None, Ok, Err, Result, sym, refl, ap, subst, append-nil, arith}
+use Rattle.std.proofs.Common.{◌≡◌, ℕ, zero, suc, ◌<◌, ◌≤◌, Bool, List, [], ◌∷◌, ◌++◌, map, length, get_or, take, IsErrAnd, MatchOption, MatchResult, Some, None, Ok, Err, Option, Result, sym, refl, ap, ◌∙◌, subst, append-nil, arith}
 use lib.ListN.{length-map}
 use Rattle.fault.specs.declared.TableFault.{TableFault}
 use Rattle.fault.specs.declared.TableFault.TheVariants.{BadMemory, UnsafeStart, NoSuchBranch, NotWaiting, NotOut, HeightAboveBound, NamesExhausted, TermsExhausted, Satisfiable, NoRenaming, UnsafeForm, RowLimit}
 use Rattle.sheet.specs.Runs.{start_bit}
-use Rattle.sheet.specs.System.{System}
+use Rattle.sheet.specs.declared.syntax.Reading.{Reading}
+use Rattle.sheet.specs.Lawful.{Lawful}
+use Rattle.sheet.specs.System.{System, no_reading}
 use Rattle.terms.specs.declared.Condition.{Condition}
 use Rattle.terms.specs.declared.TermRecord.{TermRecord}
 use Rattle.terms.specs.Terms.{Term}
@@ -14,14 +16,17 @@ use Rattle.banks.specs.Gains.{Gained, Overfull}
 use Rattle.banks.specs.Room.{Holding, Roomy}
 use Rattle.banks.proofs.Gaining.{roomy_gained, crowded_overfull, holding_after}
 use Rattle.rows.specs.declared.row.RowRecord.{RowRecord}
-use Rattle.forms.specs.Rows.{Row, start_of, first_row}
-use Rattle.forms.specs.Candidate.{branch_answers, or_none, input_names, candidate_with, candidate}
+use Rattle.forms.specs.Rows.{Row, start_of, first_row, stands}
+use Rattle.rows.specs.Names.{is_in}
+use Rattle.std.specs.Option.{ok_or}
+use Rattle.forms.specs.Candidate.{branch_answers, or_none, names_for, input_names, candidate_with, candidate}
 use Rattle.forms.specs.Counted.{sides_of, terms_in, made, CandidateIn}
 use Rattle.rows.specs.Records.{row_in}
 use Rattle.candidates.specs.declared.conditions.Conditions.{Conditions}
 use Rattle.candidates.specs.Outcome.{Kept, Accepted, Refused, StandsFor, Lists, CandidateMade, ConditionsMade, FirstRefused, FirstRowMade, Wanting, CandidateCounted, ConditionsCounted, FirstRowCounted}
-use Rattle.candidates.specs.Working.{Added, Vectored}
-use Rattle.candidates.proofs.Composing.{vectored_map}
+use Rattle.candidates.specs.Working.{Prepared, Started, Added, Vectored, Named}
+use Rattle.candidates.proofs.Composing.{vectored_map, recalls_none}
+use Rattle.candidates.proofs.Lawfully.{starts_named}
 
 pub kept_same : (rs : List TermRecord) (n : ℕ) → Kept rs n rs n
 kept_same rs n = record { count = refl; records = λ k lt. (refl, refl); bank = λ b. b }
@@ -42,16 +47,25 @@ module _ (s : System) (rs : List TermRecord) (n : ℕ) (row : RowRecord) (b : �
   pub candidate_none : input_names s (row_in s rs row) ≡ None → candidate s (row_in s rs row) b ≡ None
   candidate_none is = ap (λ o. or_none o (λ inputs. Some (candidate_with s (row_in s rs row) inputs (branch_answers (length s.questions) b)))) is
 
+  pub prepared : (taken : ℕ) (free : Option (List ℕ)) (r : Result (List ℕ) TableFault) → Accepted s rs n row b → ◌≡◌ {A = ℕ → Bool} (stands (row_in s rs row)) (is_in taken)
+      → MatchOption free (names_for s.inputs (is_in taken) ≡ None) (λ out. (names_for s.inputs (is_in taken) ≡ Some (take s.inputs out)) × ((k : ℕ) → get_or out k 0 < 32)) → r ≡ ok_or free NamesExhausted → Prepared s rs n row b r
+  prepared taken None r accepted same named e = rw e (λ ts. (accepted, candidate_none (ap (names_for s.inputs) same ∙ named)))
+  prepared taken (Some out) r accepted same named e = rw e (accepted, ap (names_for s.inputs) same ∙ named.0, named.1)
+
   module _ (names : List ℕ) (is : input_names s (row_in s rs row) ≡ Some names) (accepted : Accepted s rs n row b) (rs' : List TermRecord) (n' : ℕ) where
-    pub candidate_made : (r : RowRecord) → Added rs n (terms_in (candidate_with s (row_in s rs row) names (branch_answers (length s.questions) b))) rs' n' (StandsFor s rs' n' 22 (candidate_with s (row_in s rs row) names (branch_answers (length s.questions) b))) (Ok r) → CandidateMade s rs n row b rs' n' (Ok r)
-    candidate_made r x = (accepted, (candidate_with s (row_in s rs row) names (branch_answers (length s.questions) b), candidate_is names is, x.0, x.1))
-
-    pub conditions_made : (c : Conditions) → Added rs n (sides_of (candidate_with s (row_in s rs row) names (branch_answers (length s.questions) b)).conditions) rs' n' (Lists rs' n' (candidate_with s (row_in s rs row) names (branch_answers (length s.questions) b)).conditions) (Ok c) → ConditionsMade s rs n row b rs' n' (Ok c)
-    conditions_made c x = (accepted, (candidate_with s (row_in s rs row) names (branch_answers (length s.questions) b), candidate_is names is, x.0, x.1))
-
-    pub terms_refused : (ts : Row → List Term) (e : TableFault) → e ≡ TermsExhausted → Overfull rs n (ts (candidate_with s (row_in s rs row) names (branch_answers (length s.questions) b))) → Extends rs n rs' n' → Refused s rs n row b ts e × Kept rs n rs' n
+    terms_refused : (ts : Row → List Term) (e : TableFault) → e ≡ TermsExhausted → Overfull rs n (ts (candidate_with s (row_in s rs row) names (branch_answers (length s.questions) b))) → Extends rs n rs' n' → Refused s rs n row b ts e × Kept rs n rs' n
     terms_refused ts e fault over x =
         (subst (Refused s rs n row b ts) (sym fault) (accepted, (candidate_with s (row_in s rs row) names (branch_answers (length s.questions) b), candidate_is names is, over)), kept_back rs rs' n n' x)
+
+    pub candidate_answered : (n₂ : ℕ) (made r : Result RowRecord TableFault) → Added rs n (terms_in (candidate_with s (row_in s rs row) names (branch_answers (length s.questions) b))) rs' n' (StandsFor s rs' n' 22 (candidate_with s (row_in s rs row) names (branch_answers (length s.questions) b))) made → r ≡ made → MatchResult made (λ _. n₂ ≡ n') (λ _. n₂ ≡ n) → CandidateMade s rs n row b rs' n₂ r
+    candidate_answered n₂ (Ok m) r x same count =
+        rw same (rw count (accepted, (candidate_with s (row_in s rs row) names (branch_answers (length s.questions) b), candidate_is names is, x.0, x.1)))
+    candidate_answered n₂ (Err e) r x same count = rw same (rw count (terms_refused terms_in e x.0 x.1 x.2))
+
+    pub conditions_answered : (n₂ : ℕ) (made r : Result Conditions TableFault) → Added rs n (sides_of (candidate_with s (row_in s rs row) names (branch_answers (length s.questions) b)).conditions) rs' n' (Lists rs' n' (candidate_with s (row_in s rs row) names (branch_answers (length s.questions) b)).conditions) made → r ≡ made → MatchResult made (λ _. n₂ ≡ n') (λ _. n₂ ≡ n) → ConditionsMade s rs n row b rs' n₂ r
+    conditions_answered n₂ (Ok c) r x same count =
+        rw same (rw count (accepted, (candidate_with s (row_in s rs row) names (branch_answers (length s.questions) b), candidate_is names is, x.0, x.1)))
+    conditions_answered n₂ (Err e) r x same count = rw same (rw count (terms_refused (λ next. sides_of next.conditions) e x.0 x.1 x.2))
 
   -- a refusal before any term
   pub candidate_break : (e : TableFault) (r : Result RowRecord TableFault) → ((ts : Row → List Term) → Refused s rs n row b ts e) → IsErrAnd r (λ y. y ≡ e) → CandidateMade s rs n row b rs n r
@@ -100,12 +114,17 @@ module _ (s : System) (rs : List TermRecord) (n : ℕ) (rs' : List TermRecord) (
   first_terms : map start_of s.readings ≡ terms_in (first_row s)
   first_terms = sym (append-nil (map start_of s.readings))
 
-  pub first_made : (blank : List Condition) (bits : List Bool) (vector : List ℕ) → length rs ≡ 512 → Bank rs n → Added rs n (map start_of s.readings) rs' n' (Vectored rs' n' (map start_of s.readings) (length s.readings)) (Ok vector) → take (length s.bits) bits ≡ map start_bit s.bits → length s.bits ≤ length bits → length s.readings ≤ length vector
-      → FirstRowMade s rs n rs' n' (Ok (record { bits = bits; vector = vector; conditions = blank; used = 0 }))
-  first_made blank bits vector long bank x is room room' =
+  pub started_over : ∥ Lawful s ∥₁ → length rs ≡ 512 → Bank rs n → (xs : List Reading) → xs ≡ s.readings → (r : Result (List ℕ) TableFault)
+      → (Started [] rs n [] → ((k : ℕ) → k < length xs → Named (get_or xs k no_reading).start) → Added rs n (map start_of xs) rs' n' (Vectored rs' n' (map start_of xs) (length xs)) r)
+      → Added rs n (map start_of s.readings) rs' n' (Vectored rs' n' (map start_of s.readings) (length s.readings)) r
+  started_over lawful long bank xs is r added =
+      subst (λ (ys : List Reading). Added rs n (map start_of ys) rs' n' (Vectored rs' n' (map start_of ys) (length ys)) r) is
+      (added (record { bank = bank; long = omega arith; recalled = recalls_none [] rs n 0 }) (subst (λ (ys : List Reading). (k : ℕ) → k < length ys → Named (get_or ys k no_reading).start) (sym is) (starts_named s lawful)))
+
+  pub first_made : (blank : List Condition) (bits : List Bool) (vector : List ℕ) → Added rs n (map start_of s.readings) rs' n' (Vectored rs' n' (map start_of s.readings) (length s.readings)) (Ok vector) → take (length s.bits) bits ≡ map start_bit s.bits → length s.bits ≤ length bits → length s.readings ≤ length vector
+      → Added rs n (terms_in (first_row s)) rs' n' (StandsFor s rs' n' 16 (first_row s)) (Ok (record { bits = bits; vector = vector; conditions = blank; used = 0 }))
+  first_made blank bits vector x is room room' =
       let v = vectored_map rs' n' (map start_of s.readings) vector (length s.readings) (length-map s.readings start_of) room' x.1 in (
-        long,
-        bank,
         subst (λ ts. Gained rs n ts rs' n') first_terms x.0,
         record {
           stands = λ i. record { bits = is i; vector = v i; conditions = [] };
@@ -113,9 +132,13 @@ module _ (s : System) (rs : List TermRecord) (n : ℕ) (rs' : List TermRecord) (
         },
       )
 
-  pub first_refused : (e : TableFault) → e ≡ TermsExhausted → length rs ≡ 512 → Bank rs n → Overfull rs n (map start_of s.readings) → Extends rs n rs' n' → FirstRefused s rs n e × Kept rs n rs' n
-  first_refused e fault long bank over x =
-      (subst (FirstRefused s rs n) (sym fault) (long, bank, subst (Overfull rs n) first_terms over), kept_back rs rs' n n' x)
+  pub first_refused : Overfull rs n (map start_of s.readings) → Overfull rs n (terms_in (first_row s))
+  first_refused = subst (Overfull rs n) first_terms
+
+  pub first_answered : (n₂ : ℕ) (made r : Result RowRecord TableFault) → length rs ≡ 512 → Bank rs n → Added rs n (terms_in (first_row s)) rs' n' (StandsFor s rs' n' 16 (first_row s)) made → r ≡ made → MatchResult made (λ _. n₂ ≡ n') (λ _. n₂ ≡ n) → FirstRowMade s rs n rs' n₂ r
+  first_answered n₂ (Ok m) r long bank x same count = rw same (rw count (long, bank, x.0, x.1))
+  first_answered n₂ (Err e) r long bank x same count =
+      rw same (rw count (subst (FirstRefused s rs n) (sym x.0) (long, bank, x.1), kept_back rs rs' n n' x.2))
 
 first_wanting : (s : System) (rs : List TermRecord) (n : ℕ) (B : Type 0) → (Overfull rs n (terms_in (first_row s)) → B) → (e : TableFault) → FirstRefused s rs n e → Wanting (Unit {0}) B e
 first_wanting s rs n B terms BadMemory h = tt

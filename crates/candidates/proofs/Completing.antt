@@ -3,7 +3,6 @@ use Rattle.std.proofs.Common.{◌≡◌, ℕ, ◌<◌, ◌≤◌, Bool, false, L
 use mathlib.Core.Path.{fun_ext}
 use Rattle.std.proofs.lemmas.List.{get_or-take}
 use Rattle.fault.specs.declared.TableFault.{TableFault}
-use Rattle.sheet.specs.declared.syntax.Bit.{Bit}
 use Rattle.sheet.specs.declared.syntax.Reading.{Reading}
 use Rattle.sheet.specs.declared.syntax.TermEntry.{TermEntry}
 use Rattle.sheet.specs.Runs.{numbered, or_kept}
@@ -25,7 +24,7 @@ use Rattle.candidates.specs.declared.conditions.Conditions.{Conditions}
 use Rattle.candidates.specs.Outcome.{Lists, StandsFor}
 use Rattle.candidates.specs.Working.{Recalls, Started, Over, Added, Made, Vectored, Joined, Walks, next_over}
 use Rattle.candidates.proofs.Walking.{over_later}
-use Rattle.candidates.proofs.Listing.{numbered-length}
+use Rattle.sheet.proofs.Numbering.{numbered-length}
 use Rattle.candidates.proofs.Composing.{recalls_none, vectored_map, joined_lists, gained_both, overfull_both, overfull_first, overfull_second, gained_row, joined_later}
 
 module _ (s : System) (rs : List TermRecord) (n : ℕ) (row : RowRecord) (sound : Sound s rs n 16 row) (few : length s.questions ≤ 6) (names : List ℕ) (small : (k : ℕ) → get_or names k 0 < 32) (b : ℕ) where
@@ -74,16 +73,17 @@ module _ (s : System) (rs : List TermRecord) (n : ℕ) (row : RowRecord) (sound 
   row_started : (values : List Term) → Started values rs n (replicate 64 None)
   row_started values = record { bank = sound.bank; long = omega (arith, sound.long); recalled = recalls_none values rs n 64 }
 
-  module _ (entries : List TermEntry) (places : List ℕ) (answers : List Bool) (known-terms : map term_in entries ≡ s.terms) (known-places : places ≡ take (length s.readings) row.vector) (known-answers : answers ≡ branch_answers (length s.questions) b) where
+  module _ (entries : List TermEntry) (places : List ℕ) (answers : List Bool) (known-terms : map term_in entries ≡ s.terms) (known-places : places ≡ take (length s.readings) row.vector) (known-answers : answers ≡ branch_answers (length s.questions) b) (inputs : List ℕ) (known-inputs : inputs ≡ names) where
     given_over : Over (row_in s rs row).vector rs n places names
     given_over = subst (λ ps. Over (row_in s rs row).vector rs n ps names) (sym known-places) row_over
 
     module _ (rs₁ : List TermRecord) (n₁ : ℕ) (known₁ : List (Option ℕ)) where
       pub conditions_joined : (mine : List Condition) → mine ≡ take row.used row.conditions → (r : Result Conditions TableFault)
-          → Walks entries places names rs n (replicate 64 None) (λ v values. sides_of (numbered (condition_of values answers) 0 s.questions)) rs₁ n₁ known₁ (λ v values. Joined rs₁ n₁ (numbered (condition_of values answers) 0 s.questions) mine) r
+          → Walks entries places inputs rs n (replicate 64 None) (λ v values. sides_of (numbered (condition_of values answers) 0 s.questions)) rs₁ n₁ known₁ (λ v values. Joined rs₁ n₁ (numbered (condition_of values answers) 0 s.questions) mine) r
           → Added rs n (sides_of asked) rs₁ n₁ (Made over rs₁ n₁ known₁ (Joined rs₁ n₁ asked own)) r
       conditions_joined mine e r walks =
-          let x = walks (row_in s rs row).vector given_over (row_started (terms_over (row_in s rs row).vector names (map term_in entries))) in
+          let walks' = subst (λ ns. Walks entries places ns rs n (replicate 64 None) (λ v values. sides_of (numbered (condition_of values answers) 0 s.questions)) rs₁ n₁ known₁ (λ v values. Joined rs₁ n₁ (numbered (condition_of values answers) 0 s.questions) mine) r) known-inputs walks in
+          let x = walks' (row_in s rs row).vector given_over (row_started (terms_over (row_in s rs row).vector names (map term_in entries))) in
           subst (λ cs. Added rs n (sides_of asked) rs₁ n₁ (Made over rs₁ n₁ known₁ (Joined rs₁ n₁ asked cs)) r) e
           (subst (λ bs. Added rs n (sides_of (numbered (condition_of over bs) 0 s.questions)) rs₁ n₁ (Made over rs₁ n₁ known₁ (Joined rs₁ n₁ (numbered (condition_of over bs) 0 s.questions) mine)) r) known-answers
           (subst (λ ts. Added rs n (sides_of (numbered (condition_of (terms_over (row_in s rs row).vector names ts) answers) 0 s.questions)) rs₁ n₁ (Made (terms_over (row_in s rs row).vector names ts) rs₁ n₁ known₁ (Joined rs₁ n₁ (numbered (condition_of (terms_over (row_in s rs row).vector names ts) answers) 0 s.questions) mine)) r) known-terms x))
@@ -96,11 +96,12 @@ module _ (s : System) (rs : List TermRecord) (n : ℕ) (row : RowRecord) (sound 
       -- the vector, once the questions' terms are there
       module _ (g : Gained rs n (sides_of asked) rs₁ n₁) (recalled : Recalls over rs₁ n₁ known₁) (long : length rs₁ ≡ length rs) (rs₂ : List TermRecord) (n₂ : ℕ) (known₂ : List (Option ℕ)) where
         pub vector_placed : (picked : List ℕ) → ((k : ℕ) → get_or picked k 0 ≡ get_or (row_chosen s old names replies) k 0) → (readings : List Reading) → readings ≡ s.readings → (r : Result (List ℕ) TableFault)
-            → Walks entries places names rs₁ n₁ known₁ (λ v values. numbered (λ m x. next_over picked v values m x.next) 0 readings) rs₂ n₂ known₂ (λ v values. Vectored rs₂ n₂ (numbered (λ m x. next_over picked v values m x.next) 0 readings) (length readings)) r
+            → Walks entries places inputs rs₁ n₁ known₁ (λ v values. numbered (λ m x. next_over picked v values m x.next) 0 readings) rs₂ n₂ known₂ (λ v values. Vectored rs₂ n₂ (numbered (λ m x. next_over picked v values m x.next) 0 readings) (length readings)) r
             → Added rs₁ n₁ next.vector rs₂ n₂ (Made over rs₂ n₂ known₂ (Vectored rs₂ n₂ next.vector (length s.readings))) r
         vector_placed picked right readings is r walks =
             let start : Started (terms_over (row_in s rs row).vector names (map term_in entries)) rs₁ n₁ known₁ = record { bank = g.extends.bank; long = omega (arith, sound.long); recalled = subst (λ ts. Recalls (terms_over (row_in s rs row).vector names ts) rs₁ n₁ known₁) (sym known-terms) recalled } in
-            let x = walks (row_in s rs row).vector (over_later (row_in s rs row).vector rs rs₁ n n₁ places names g.extends given_over) start in
+            let walks' = subst (λ ns. Walks entries places ns rs₁ n₁ known₁ (λ v values. numbered (λ m x. next_over picked v values m x.next) 0 readings) rs₂ n₂ known₂ (λ v values. Vectored rs₂ n₂ (numbered (λ m x. next_over picked v values m x.next) 0 readings) (length readings)) r) known-inputs walks in
+            let x = walks' (row_in s rs row).vector (over_later (row_in s rs row).vector rs rs₁ n n₁ places names g.extends given_over) start in
             subst (λ (pick : ℕ → ℕ). Added rs₁ n₁ (numbered (λ m y. or_kept (λ k. get_or over (pick k) no_term) (get_or (row_in s rs row).vector m no_term) y.next) 0 s.readings) rs₂ n₂ (Made over rs₂ n₂ known₂ (Vectored rs₂ n₂ (numbered (λ m y. or_kept (λ k. get_or over (pick k) no_term) (get_or (row_in s rs row).vector m no_term) y.next) 0 s.readings) (length s.readings))) r) (fun_ext right)
             (subst (λ (ys : List Reading). Added rs₁ n₁ (numbered (λ m y. next_over picked (row_in s rs row).vector over m y.next) 0 ys) rs₂ n₂ (Made over rs₂ n₂ known₂ (Vectored rs₂ n₂ (numbered (λ m y. next_over picked (row_in s rs row).vector over m y.next) 0 ys) (length ys))) r) is
             (subst (λ ts. Added rs₁ n₁ (numbered (λ m y. next_over picked (row_in s rs row).vector (terms_over (row_in s rs row).vector names ts) m y.next) 0 readings) rs₂ n₂ (Made (terms_over (row_in s rs row).vector names ts) rs₂ n₂ known₂ (Vectored rs₂ n₂ (numbered (λ m y. next_over picked (row_in s rs row).vector (terms_over (row_in s rs row).vector names ts) m y.next) 0 readings) (length readings))) r) known-terms x))
@@ -127,9 +128,8 @@ module _ (s : System) (rs : List TermRecord) (n : ℕ) (row : RowRecord) (sound 
       conditions_refused over' = overfull_first rs n asked own own_between next.vector over'
 
   -- the bits
-  pub bits_built : (bs : List Bit) → bs ≡ s.bits → (before : List Bool) → before ≡ (row_in s rs row).bits → (truth : List Bool) → ((f : ℕ) → get_or truth f false ≡ get_or (row_truths s old names replies) f false) → (out : List Bool)
-      → take (length bs) out ≡ numbered (λ m x. or_kept (λ f. get_or truth f false) (get_or before m false) x.next) 0 bs → take (length s.bits) out ≡ next.bits
-  bits_built bs is before was truth right out e =
+  pub bits_built : (before : List Bool) → before ≡ (row_in s rs row).bits → (truth : List Bool) → ((f : ℕ) → get_or truth f false ≡ get_or (row_truths s old names replies) f false) → (out : List Bool)
+      → take (length s.bits) out ≡ numbered (λ m x. or_kept (λ f. get_or truth f false) (get_or before m false) x.next) 0 s.bits → take (length s.bits) out ≡ next.bits
+  bits_built before was truth right out e =
       subst (λ (t : ℕ → Bool). take (length s.bits) out ≡ numbered (λ m x. or_kept t (get_or (row_in s rs row).bits m false) x.next) 0 s.bits) (fun_ext right)
-      (subst (λ (l : List Bool). take (length s.bits) out ≡ numbered (λ m x. or_kept (λ f. get_or truth f false) (get_or l m false) x.next) 0 s.bits) was
-      (subst (λ (xs : List Bit). take (length xs) out ≡ numbered (λ m x. or_kept (λ f. get_or truth f false) (get_or before m false) x.next) 0 xs) is e))
+      (subst (λ (l : List Bool). take (length s.bits) out ≡ numbered (λ m x. or_kept (λ f. get_or truth f false) (get_or l m false) x.next) 0 s.bits) was e)

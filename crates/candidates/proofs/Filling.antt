@@ -1,13 +1,18 @@
 -- Lists that are filled from the front: values, a branch's answers and the inputs' names.
-use Rattle.std.proofs.Common.{◌≡◌, ℕ, zero, suc, ◌+◌, ◌-◌, ◌/◌, ◌%◌, ◌^◌, ◌<◌, ◌≤◌, Bool, true, false, cond, ◌||◌, eqb, List, [], ◌∷◌, ◌++◌, length, get_or, take, set, replicate, Some, None, Option, sym, refl, ap, ◌∙◌, ⊎_elim, append_assoc, append-nil, arith}
+use Rattle.std.proofs.Common.{◌≡◌, ℕ, zero, suc, ◌+◌, ◌-◌, ◌/◌, ◌%◌, ◌^◌, ◌<◌, ◌≤◌, Bool, true, false, cond, ◌||◌, eqb, List, [], ◌∷◌, ◌++◌, length, get_or, take, drop, set, replicate, Some, None, Option, sym, refl, ap, ◌∙◌, subst, ⊎_elim, append_assoc, append-nil, arith, length-take}
 use mathlib.Core.Path.{fun_ext}
+use denote.Param.Members.{Mut}
+use Rattle.std.specs.Array.{IsFromFnResult, IsFromFnResultFrom}
+use Rattle.std.specs.Fn.{Called}
 use lib.Bits.{bit_or}
-use Rattle.std.proofs.lemmas.List.{take_more, take_more_set, get_or_past}
+use Rattle.std.proofs.lemmas.List.{take_more, take_more_set, get_or_past, get_or-take, ext_get_or}
+use Rattle.std.proofs.lemmas.Nat.{shr-shr}
 use Rattle.std.proofs.lemmas.Bool.{cases_lt}
 use Rattle.terms.specs.Terms.{name}
 use Rattle.terms.proofs.NameSets.{mentions_occurs}
 use Rattle.forms.specs.Rows.{lowest_from, lowest_free}
 use Rattle.forms.specs.Candidate.{branch_answers, or_none, names_for}
+use Rattle.forms.proofs.Branches.{answers_long}
 use Rattle.rows.specs.Names.{is_in}
 use Rattle.rows.proofs.Sets.{in-union}
 
@@ -22,18 +27,31 @@ filled_more d out values k x room inside is old =
 pub filled_all : {V : Type 0} (d : V) (out values : List V) → ((k : ℕ) → k < length out → get_or out k d ≡ get_or values k d) → length values ≤ length out → (k : ℕ) → get_or out k d ≡ get_or values k d
 filled_all d out values h long k = ⊎_elim (λ lt. h k lt) (λ ge. get_or_past out k d ge ∙ sym (get_or_past values k d (omega arith))) (cases_lt k (length out))
 
--- one answer more
-pub answered_more : (out : List Bool) (i count rest branch : ℕ) → i < count → i < length out → take i out ++ branch_answers (count - i) rest ≡ branch_answers count branch → take (i + 1) (set out i (eqb (rest % 2) 1)) ++ branch_answers (count - (i + 1)) (rest / 2) ≡ branch_answers count branch
-answered_more out i count rest branch lt room old =
-    let m : count - i ≡ suc (count - (i + 1)) = omega arith in
-    ap (λ l. l ++ branch_answers (count - (i + 1)) (rest / 2)) (take_more_set out i (eqb (rest % 2) 1) room)
-    ∙ (append_assoc (take i out) (eqb (rest % 2) 1 ∷ []) (branch_answers (count - (i + 1)) (rest / 2))
-    ∙ (ap (λ k. take i out ++ branch_answers k rest) (sym m) ∙ old))
+-- Where each call gives h of its number and leaves the closure as it is, each place is h of its number.
+made-from : {F B : Type 0} (g : Mut F (ℕ × Unit {0}) B) (f : F) (h : ℕ → B) → ((k : ℕ) (y : B) (q : F) → Called g f (k, tt) y q → (q ≡ f) × (y ≡ h k)) → (ys : List B) (i n : ℕ) → IsFromFnResultFrom g f ys i n → (k : ℕ) (d : B) → k < n → get_or ys (i + k) d ≡ h (i + k)
+made-from g f h says ys i zero made k d lt = absurd (omega arith)
+made-from {F} {B} g f h says ys i (suc n) made zero d lt = let z : i + 0 ≡ i = omega arith in rw z (made.2.1 d ∙ (says i made.1 made.0 made.3).1)
+made-from {F} {B} g f h says ys i (suc n) made (suc k) d lt =
+    let s : i + suc k ≡ i + 1 + k = omega arith in
+    rw s (made-from g f h says ys (i + 1) n (subst (λ p. IsFromFnResultFrom g p ys (i + 1) n) (says i made.1 made.0 made.3).0 made.4) k d (omega arith))
 
-pub answered_all : (out : List Bool) (i count rest branch : ℕ) → i ≡ count → take i out ++ branch_answers (count - i) rest ≡ branch_answers count branch → take count out ≡ branch_answers count branch
-answered_all out i count rest branch end old =
-    let none : count - i ≡ 0 = omega arith in
-    ap (λ m. take m out) (sym end) ∙ (sym (append-nil (take i out)) ∙ (ap (λ m. take i out ++ branch_answers m rest) (sym none) ∙ old))
+pub made : {F B : Type 0} (g : Mut F (ℕ × Unit {0}) B) (f : F) (h : ℕ → B) → ((k : ℕ) (y : B) (q : F) → Called g f (k, tt) y q → (q ≡ f) × (y ≡ h k)) → (ys : List B) (n : ℕ) → IsFromFnResult g f ys n → (k : ℕ) (d : B) → k < n → get_or ys k d ≡ h k
+made g f h says ys n m k d lt = let z : 0 + k ≡ k = omega arith in rw z at (made-from g f h says ys 0 n m.each k d lt)
+
+-- a branch's answers are its bits
+answers_at : (count branch k : ℕ) → k < count → get_or (branch_answers count branch) k false ≡ eqb (branch / 2 ^ k % 2) 1
+answers_at zero branch k lt = absurd (omega arith)
+answers_at (suc count) branch zero lt = let e : branch / 2 ^ 0 ≡ branch = omega arith in ap (λ b. eqb (b % 2) 1) (sym e)
+answers_at (suc count) branch (suc k) lt =
+    let next : 1 + k ≡ suc k = omega arith in
+    let e : branch / 2 / 2 ^ k ≡ branch / 2 ^ suc k = shr-shr branch 1 k ∙ ap (λ j. branch / 2 ^ j) next in
+    answers_at count (branch / 2) k (omega arith) ∙ ap (λ b. eqb (b % 2) 1) e
+
+pub answers_from_bits : (out : List Bool) (count branch : ℕ) → count ≤ length out → ((k : ℕ) → k < count → get_or out k false ≡ eqb (branch / 2 ^ k % 2) 1) → take count out ≡ branch_answers count branch
+answers_from_bits out count branch room bits =
+    let long : length (take count out) ≡ length (branch_answers count branch) = omega (arith, length-take count out, answers_long count branch) in
+    ext_get_or false (take count out) (branch_answers count branch) long
+    (λ k lt. let lt' : k < count = omega (arith, length-take count out) in get_or-take count out k false lt' ∙ (bits k lt' ∙ sym (answers_at count branch k lt')))
 
 -- one name more
 or_swap : (a b : Bool) → a || b ≡ b || a
@@ -82,6 +100,16 @@ pub zeros-small : (n k : ℕ) → get_or (replicate n 0) k 0 < 32
 zeros-small zero k = omega arith
 zeros-small (suc n) zero = omega arith
 zeros-small (suc n) (suc k) = zeros-small n k
+
+pub small-append : (m : ℕ) (xs ys : List ℕ) → ((k : ℕ) → get_or xs k 0 < m) → ((k : ℕ) → get_or ys k 0 < m) → (k : ℕ) → get_or (xs ++ ys) k 0 < m
+small-append m [] ys first second k = second k
+small-append m (x ∷ xs) ys first second zero = first zero
+small-append m (x ∷ xs) ys first second (suc k) = small-append m xs ys (λ j. first (suc j)) second k
+
+pub small-drop : (m n : ℕ) (xs : List ℕ) → ((k : ℕ) → get_or xs k 0 < m) → (k : ℕ) → get_or (drop n xs) k 0 < m
+small-drop m zero xs small k = small k
+small-drop m (suc n) [] small k = small k
+small-drop m (suc n) (x ∷ xs) small k = small-drop m n xs (λ j. small (suc j)) k
 
 lowest-below : (taken : ℕ → Bool) (k x y : ℕ) → lowest_from taken k x ≡ Some y → y < x + k
 lowest-below taken zero x y e = let z : ◌≡◌ {A = ℕ} 0 1 = cc in absurd (omega arith)

@@ -2,7 +2,6 @@
 use Rattle.std.proofs.Common.{◌≡◌, ℕ, zero, suc, ◌+◌, ◌-◌, ◌*◌, ◌%◌, ◌^◌, ◌<◌, ◌≤◌, Bool, true, false, not, List, [], ◌++◌, length, get_or, take, Decides, MatchBool, sym, refl, ap, ◌∙◌, subst, ap₂, ⊎_elim, arith}
 use Rattle.std.proofs.lemmas.List.{length-append, length-take-le, get_or-take, get_or_append_left, get_or-append-add}
 use Rattle.std.proofs.lemmas.Bool.{cases_lt, true≢false}
-use Rattle.sheet.specs.declared.syntax.Equation.{Equation}
 use Rattle.sheet.specs.Runs.{or_kept}
 use Rattle.sheet.specs.System.{System}
 use Rattle.sheet.specs.Truth.{truths}
@@ -18,7 +17,8 @@ use Rattle.forms.proofs.Branches.{answers_long}
 use Rattle.candidates.specs.Working.{Stands, Listed, no_literal}
 use Rattle.candidates.specs.Cases.{with_answer, Laid, Breaks}
 use Rattle.candidates.proofs.Composing.{listed-map}
-use Rattle.candidates.proofs.Listing.{numbered_at, numbered-length, literal_same, no_equation}
+use Rattle.sheet.proofs.Numbering.{numbered_at, numbered-length}
+use Rattle.candidates.proofs.Listing.{literal_same, no_equation}
 
 pub answered : (c d : Condition) (s : Sign) (a : Bool) → c ≡ d → s ≡ sign_of a → ◌≡◌ {A = Condition} (record { left = c.left; right = c.right; sign = s }) (with_answer d a)
 answered c d s a p q = λ i. record { left = (p i).left; right = (p i).right; sign = q i }
@@ -69,33 +69,19 @@ module _ (s : System) (form : Row) (rs : List TermRecord) (n : ℕ) (cs : List C
   case_literals : literals rs (take used cs') ≡ whole
   case_literals = listed-map rs n whole cs' used whole_long room stands_at
 
-  module _ (conds : List Condition) (same : conds ≡ take used cs') where
-    pub case_ready : (labels : List ℕ) → 512 ≤ length labels → Ready rs n conds labels
-    case_ready labels labelled = subst (λ l. Ready rs n l labels) (sym same) ready
-      where
-        ready : Ready rs n (take used cs') labels
-        ready =
-            record {
-              ordered = laid.bank.ordered;
-              few = laid.bank.few;
-              labelled = omega (arith, laid.bank.few);
-              lefts = λ k lt. (let inside : k < used = omega (arith, taken_long) in subst (λ (c : Condition). c.left < n) (sym (get_or-take used cs' k no_condition inside)) (stands_at k inside).lefts);
-              rights = λ k lt. (let inside : k < used = omega (arith, taken_long) in subst (λ (c : Condition). c.right < n) (sym (get_or-take used cs' k no_condition inside)) (stands_at k inside).rights);
-            }
+  pub case_ready : (labels : List ℕ) → 512 ≤ length labels → Ready rs n (take used cs') labels
+  case_ready labels labelled =
+      record {
+        ordered = laid.bank.ordered;
+        few = laid.bank.few;
+        labelled = omega (arith, laid.bank.few);
+        lefts = λ k lt. (let inside : k < used = omega (arith, taken_long) in subst (λ (c : Condition). c.left < n) (sym (get_or-take used cs' k no_condition inside)) (stands_at k inside).lefts);
+        rights = λ k lt. (let inside : k < used = omega (arith, taken_long) in subst (λ (c : Condition). c.right < n) (sym (get_or-take used cs' k no_condition inside)) (stands_at k inside).rights);
+      }
 
-    pub case_tried : invariant_in s form b ≡ false → (impossible : Bool) → MatchBool impossible (Sat (literals rs conds) → ⊥) (Sat (literals rs conds)) → Decides (not impossible) (Breaks s form b)
-    case_tried broken true never = ((λ e. absurd (true≢false (sym e))), λ p. absurd (never (subst Sat (sym (ap (literals rs) same ∙ case_literals)) p.1)))
-    case_tried broken false some = ((λ _. (broken, subst Sat (ap (literals rs) same ∙ case_literals) some)), λ _. refl)
-
--- a part from the start
-pub from_start : {X : Type 0} (m : ℕ) (xs : List X) → take (m - 0) xs ≡ take m xs
-from_start m xs = let e : m - 0 ≡ m = omega arith in ap (λ k. take k xs) e
-
-pub part_of : {X : Type 0} (m k : ℕ) (xs : List X) → m ≡ k → take (m - 0) xs ≡ take k xs
-part_of m k xs is = from_start m xs ∙ ap (λ j. take j xs) is
-
-pub part_answers : (claims claims' : List Equation) (b : ℕ) (out : List Bool) → claims ≡ claims' → take (length claims) out ≡ branch_answers (length claims) b → take (length claims - 0) out ≡ branch_answers (length claims') b
-part_answers claims claims' b out is h = from_start (length claims) out ∙ (h ∙ ap (λ xs. branch_answers (length xs) b) is)
+  pub case_tried : invariant_in s form b ≡ false → (impossible : Bool) → MatchBool impossible (Sat (literals rs (take used cs')) → ⊥) (Sat (literals rs (take used cs'))) → Decides (not impossible) (Breaks s form b)
+  case_tried broken true never = ((λ e. absurd (true≢false (sym e))), λ p. absurd (never (subst Sat (sym case_literals) p.1)))
+  case_tried broken false some = ((λ _. (broken, subst Sat case_literals some)), λ _. refl)
 
 -- as many cases as the claims have
 pub shifted : (k : ℕ) → k ≤ 4 → (1 * 2 ^ k) % 256 ≡ 2 ^ k

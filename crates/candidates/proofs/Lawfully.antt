@@ -15,9 +15,6 @@ module _ (s : System) (lawful : ∥ Lawful s ∥₁) where
   of : (x : Bool) → (Lawful s → x ≡ true) → x ≡ true
   of x f = ∥∥₁_elim lawful (Bool-set x true) f
 
-  pub few_bits : length s.bits ≤ 16
-  few_bits = leb-true (length s.bits) 16 (of _ (λ l. l.few.bits))
-
   pub few_readings : length s.readings ≤ 6
   few_readings = leb-true (length s.readings) 6 (of _ (λ l. l.few.readings))
 
@@ -26,6 +23,9 @@ module _ (s : System) (lawful : ∥ Lawful s ∥₁) where
 
   pub few_questions : length s.questions ≤ 6
   few_questions = leb-true (length s.questions) 6 (of _ (λ l. l.few.questions))
+
+  pub few_asked : (asked : ℕ) → asked ≡ length s.questions → asked ≤ 6
+  few_asked asked is = omega (arith, few_questions)
 
   pub few_formulas : length s.formulas ≤ 64
   few_formulas = leb-true (length s.formulas) 64 (of _ (λ l. l.few.formulas))

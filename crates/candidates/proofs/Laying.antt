@@ -19,7 +19,7 @@ use Rattle.forms.specs.Candidate.{branch_answers, condition_of, terms_over}
 use Rattle.forms.specs.Safety.{claim_conditions}
 use Rattle.forms.specs.Counted.{sides_of, claim_terms}
 use Rattle.rows.specs.Records.{Sound, row_in}
-use Rattle.candidates.specs.Working.{Started, Over, Added, Walks, Stands, Listed, no_literal}
+use Rattle.candidates.specs.Working.{Started, Over, Added, Made, Walks, Stands, Listed, no_literal}
 use Rattle.candidates.specs.Cases.{Laid, Unbroken, Searched}
 use Rattle.candidates.proofs.Composing.{recalls_none}
 use Rattle.candidates.proofs.Listing.{stands_later}
@@ -41,7 +41,7 @@ module _ (s : System) (rs : List TermRecord) (n : ℕ) (form : RowRecord) (sound
   row_started values m = record { bank = sound.bank; long = omega (arith, sound.long); recalled = recalls_none values rs n m }
 
   -- The claims' conditions, asked over the row's vector with no inputs and the answers of the first case.
-  module _ (entries : List TermEntry) (entries-are : map term_in entries ≡ s.terms) (places : List ℕ) (places_are : places ≡ take (length s.readings) form.vector) (claims : List Equation) (claims_are : claims ≡ s.claims) (answers : List Bool) (answers_are : answers ≡ branch_answers (length s.claims) 0) where
+  module _ (entries : List TermEntry) (entries-are : map term_in entries ≡ s.terms) (places : List ℕ) (places_are : places ≡ take (length s.readings) form.vector) (inputs : List ℕ) (inputs_are : inputs ≡ []) (claims : List Equation) (claims_are : claims ≡ s.claims) (answers : List Bool) (answers_are : answers ≡ branch_answers (length s.claims) 0) where
     abbrev asked : List Term → List Literal
     asked values = numbered (condition_of values answers) 0 claims
 
@@ -53,12 +53,17 @@ module _ (s : System) (rs : List TermRecord) (n : ℕ) (form : RowRecord) (sound
         ap (λ ts. numbered (condition_of (terms_over row.vector [] ts) answers) 0 claims) entries-are
         ∙ ap₂ (λ l cs. numbered (condition_of (terms_over row.vector [] s.terms) l) 0 cs) answers_are claims_are
 
-    pub claims_asked : (rs' : List TermRecord) (n' : ℕ) (known' : List (Option ℕ)) (r : Result (List Condition) TableFault) → Walks entries places [] rs n (replicate 64 None) (λ v values. sides_of (asked values)) rs' n' known' (λ v values. Listed rs' n' (asked values) (length claims)) r → Added rs n (claim_terms s row) rs' n' (Listed rs' n' (claim_conditions s row 0) (length claims)) r
+    module _ (rs' : List TermRecord) (n' : ℕ) (known' : List (Option ℕ)) (r : Result (List Condition) TableFault) where
+      asked_over : Walks entries places inputs rs n (replicate 64 None) (λ v values. sides_of (asked values)) rs' n' known' (λ v values. Listed rs' n' (asked values) (length claims)) r → Added rs n (sides_of (asked values)) rs' n' (Made values rs' n' known' (Listed rs' n' (asked values) (length claims))) r
+      asked_over walks =
+          subst (λ ns. Walks entries places ns rs n (replicate 64 None) (λ v values. sides_of (asked values)) rs' n' known' (λ v values. Listed rs' n' (asked values) (length claims)) r) inputs_are walks row.vector (row_over places places_are) (row_started values 64)
+
+    pub claims_asked : (rs' : List TermRecord) (n' : ℕ) (known' : List (Option ℕ)) (r : Result (List Condition) TableFault) → Walks entries places inputs rs n (replicate 64 None) (λ v values. sides_of (asked values)) rs' n' known' (λ v values. Listed rs' n' (asked values) (length claims)) r → Added rs n (claim_terms s row) rs' n' (Listed rs' n' (claim_conditions s row 0) (length claims)) r
     claims_asked rs' n' known' (Ok list) walks =
-        let h = walks row.vector (row_over places places_are) (row_started values 64) in
+        let h = asked_over rs' n' known' (Ok list) walks in
         (subst (λ ls. Gained rs n (sides_of ls) rs' n') first_case h.0, subst (λ ls. Listed rs' n' ls (length claims) list) first_case h.1.made)
     claims_asked rs' n' known' (Err e) walks =
-        let h = walks row.vector (row_over places places_are) (row_started values 64) in
+        let h = asked_over rs' n' known' (Err e) walks in
         (h.0, subst (λ ls. Overfull rs n (sides_of ls)) first_case h.1, h.2)
 
   own_stands : (k : ℕ) → k < form.used → Stands rs n (get_or row.conditions k no_literal) (get_or form.conditions k no_condition)

@@ -1,11 +1,10 @@
 -- Conditions and places that are listed one after another.
-use Rattle.std.proofs.Common.{◌≡◌, ℕ, zero, suc, ◌+◌, ◌<◌, List, [], ◌∷◌, ◌++◌, length, get_or, take, drop, set, IsErrAnd, Ok, Err, Option, Result, sym, refl, ap, ◌∙◌, subst, add-zero, arith, take-append-drop, below_more}
+use Rattle.std.proofs.Common.{◌≡◌, ℕ, ◌+◌, ◌<◌, List, [], ◌∷◌, ◌++◌, length, get_or, take, drop, set, IsErrAnd, Ok, Err, Option, Result, sym, refl, ap, ◌∙◌, subst, arith, take-append-drop, below_more}
 use Rattle.std.specs.List.{ContainsAt as Has}
 use Rattle.std.proofs.lemmas.List.{get_or-set_same, get_or-set_other, take_more}
 use Rattle.fault.specs.declared.TableFault.{TableFault}
 use Rattle.fault.specs.declared.TableFault.TheVariants.{TermsExhausted}
 use Rattle.sheet.specs.declared.syntax.Equation.{Equation}
-use Rattle.sheet.specs.Runs.{numbered}
 use Rattle.terms.specs.declared.Condition.{Condition}
 use Rattle.terms.specs.declared.Sign.{Sign}
 use Rattle.terms.specs.declared.TermRecord.{TermRecord}
@@ -29,19 +28,6 @@ no_equation = record { left = 0; right = 0 }
 pub added_break : {A : Type 0} (rs : List TermRecord) (n : ℕ) (ts : List Term) (rs' : List TermRecord) (n' : ℕ) (P : A → Type 0) (e : TableFault) (r : Result A TableFault) → e ≡ TermsExhausted → Overfull rs n ts × Extends rs n rs' n' → IsErrAnd r (λ y. y ≡ e) → Added rs n ts rs' n' P r
 added_break rs n ts rs' n' P e (Ok a) is h by = absurd by
 added_break rs n ts rs' n' P e (Err y) is h by = (by ∙ is, h.0, h.1)
-
--- a list by number
-numbered-from : {X Y : Type 0} (f : ℕ → X → Y) (n : ℕ) (xs : List X) (k : ℕ) (d : Y) (e : X) → k < length xs → get_or (numbered f n xs) k d ≡ f (n + k) (get_or xs k e)
-numbered-from f n [] k d e h = absurd (omega arith)
-numbered-from f n (x ∷ xs) zero d e h = ap (λ m. f m x) (sym (add-zero n))
-numbered-from f n (x ∷ xs) (suc k) d e h = let m : n + suc k ≡ suc n + k = omega arith in rw m (numbered-from f (suc n) xs k d e (omega arith))
-
-pub numbered_at : {X Y : Type 0} (f : ℕ → X → Y) (xs : List X) (k : ℕ) (d : Y) (e : X) → k < length xs → get_or (numbered f 0 xs) k d ≡ f k (get_or xs k e)
-numbered_at f xs k d e h = let z : 0 + k ≡ k = omega arith in rw z at (numbered-from f 0 xs k d e h)
-
-pub numbered-length : {X Y : Type 0} (f : ℕ → X → Y) (n : ℕ) (xs : List X) → length (numbered f n xs) ≡ length xs
-numbered-length f n [] = refl
-numbered-length f n (x ∷ xs) = ap suc (numbered-length f (suc n) xs)
 
 -- what is true of each place stays true when one more is written
 pub set_more : {V : Type 0} (P : ℕ → V → Type 0) (xs : List V) (i : ℕ) (x d : V) → i < length xs → ((k : ℕ) → k < i → P k (get_or xs k d)) → P i x → (k : ℕ) → k < i + 1 → P k (get_or (set xs i x) k d)

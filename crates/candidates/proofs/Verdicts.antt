@@ -54,6 +54,6 @@ module _ (s : System) (lawful : ∥ Lawful s ∥₁) where
         (fit, verdict (decided fit.sound) safe h.1, λ seen holding. roomy_gained rs n seen holding (claim_terms s row) rs' n' h.0)
     judged_by labels fit rs' n' (Err e) h = inr (h.0, fit, λ seen holding. crowded_overfull rs n seen holding (claim_terms s row) h.1)
 
-    pub kept_after : (rs' : List TermRecord) (n' : ℕ) (r : Result Bool TableFault) → Added rs n (claim_terms s row) rs' n' (Unbroken s row) r → Kept rs n rs' n
-    kept_after rs' n' (Ok safe) h = kept_back rs rs' n n' h.0.extends
-    kept_after rs' n' (Err e) h = kept_back rs rs' n n' h.2
+    pub kept_after : (rs' : List TermRecord) (n' n₂ : ℕ) (r : Result Bool TableFault) → Added rs n (claim_terms s row) rs' n' (Unbroken s row) r → n₂ ≡ n → Kept rs n rs' n₂
+    kept_after rs' n' n₂ (Ok safe) h restored = rw restored (kept_back rs rs' n n' h.0.extends)
+    kept_after rs' n' n₂ (Err e) h restored = rw restored (kept_back rs rs' n n' h.2)

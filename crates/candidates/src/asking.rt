@@ -13,12 +13,7 @@ use rows::{MOST_CANDIDATE_CONDITIONS, at_or};
 use sheet::Equation;
 use terms::{Condition, Count, Sign, TermRecord};
 
-const NO_CONDITION: Condition = Condition {
-    left: 0,
-    right: 0,
-    sign: Sign::Equal,
-};
-
+// A function and no `From`, since the sign is a type of another crate.
 pub(crate) fn sign_of(answer: bool) -> Sign
     ensures { result ≡ sign_of answer }
 {
@@ -53,27 +48,25 @@ pub(crate) fn ask(
     requires { length questions.now ≤ 22 }
     ensures { Walks given.entry.terms.now given.entry.vector.now given.entry.inputs.now bank.old count.old.terms known.old (λ v values. sides_of (numbered (condition_of values answers.now) 0 questions.now)) bank.new count.new.terms known.new (λ v values. Listed bank.new count.new.terms (numbered (condition_of values answers.now) 0 questions.now) (length questions.now)) result }
 {
-    let mut list = [NO_CONDITION; MOST_CANDIDATE_CONDITIONS];
-    for i in 0..questions.len() {
+    let mut list = [Condition::BLANK; MOST_CANDIDATE_CONDITIONS];
+    for (i, question) in questions.iter().enumerate() {
         let answer = at_or(answers, i, false);
-        list[i] = condition_of(given, bank, count, known, questions[i], answer)?;
+        list[i] = condition_of(given, bank, count, known, *question, answer)?;
     }
     Ok(list)
 }
 
 /// The row's own conditions behind the first `asked`.
-pub(crate) fn append(list: [Condition; 22], asked: usize, own: &[Condition]) -> Conditions
+pub(crate) fn append(mut list: [Condition; 22], asked: usize, own: &[Condition]) -> Conditions
     requires { asked + length own.now ≤ 22 }
     ensures used { result.used ≡ asked + length own.now }
     ensures front { (k : ℕ) → k < asked → slice_index_or result.list k no_condition ≡ slice_index_or list k no_condition }
     ensures back { (k : ℕ) → k < length own.now → slice_index_or result.list (asked + k) no_condition ≡ slice_index_or own.now k no_condition }
 {
-    let mut list = list;
-    for k in 0..own.len() {
-        list[asked + k] = own[k];
-    }
+    let used = asked + own.len();
+    list[asked..used].copy_from_slice(own);
     Conditions {
         list,
-        used: (asked + own.len()) as u8,
+        used: used as u8,
     }
 }

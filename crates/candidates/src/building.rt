@@ -11,21 +11,18 @@ ghost use Rattle.candidates.specs.Working.{Walks, Added, Joined};
 use crate::answers::answers_of;
 use crate::asking::{append, ask};
 use crate::conditions::Conditions;
-use crate::instantiating::Given;
+use crate::instantiating::{Given, MOST_SHEET_TERMS};
 use crate::resolving::resolve;
-use crate::successor::{next_bits, next_vector};
+use crate::successor::next_vector;
 use fault::TableFault;
-use rows::{RowRecord, bits_of, readings_of};
-use sheet::Sheet;
+use rows::{RowRecord, bits_of};
+use sheet::{Equation, Reading, Sheet};
 use terms::{Condition, Count, TermRecord};
-
-// How many terms are remembered: as many as a sheet can have.
-const MOST: usize = 64;
 
 pub(crate) fn questions_of(sheet: &Sheet) -> usize
     ensures { result ≡ length (sheet_of sheet.now).questions }
 {
-    sheet.parts.questions.as_slice().len()
+    sheet.parts.questions.len()
 }
 
 fn conditions_of(
@@ -40,7 +37,7 @@ fn conditions_of(
     requires { length own.now ≤ 16 }
     ensures { Walks given.entry.terms.now given.entry.vector.now given.entry.inputs.now bank.old count.old.terms known.old (λ v values. sides_of (numbered (condition_of values answers.now) 0 (sheet_of sheet.now).questions)) bank.new count.new.terms known.new (λ v values. Joined bank.new count.new.terms (numbered (condition_of values answers.now) 0 (sheet_of sheet.now).questions) own.now) result }
 {
-    let questions = sheet.parts.questions.as_slice();
+    let questions: &[Equation] = &sheet.parts.questions;
     let list = ask(given, bank, count, known, questions, answers)?;
     Ok(append(list, questions.len(), own))
 }
@@ -59,23 +56,11 @@ pub(crate) fn build_conditions<'a>(
     ensures { Added bank.old count.old.terms (sides_of (candidate_with (sheet_of sheet.now) (row_in (sheet_of sheet.now) bank.old row.now) names.now (branch_answers (length (sheet_of sheet.now).questions) branch)).conditions) bank.new count.new.terms (Lists bank.new count.new.terms (candidate_with (sheet_of sheet.now) (row_in (sheet_of sheet.now) bank.old row.now) names.now (branch_answers (length (sheet_of sheet.now).questions) branch)).conditions) result }
 {
     let asked = questions_of(sheet);
-    let answers = answers_of(branch, asked);
-    let given = Given {
-        terms: sheet.parts.terms.as_slice(),
-        vector: &row.vector[0..readings_of(sheet)],
-        inputs: names,
-    };
-    let mut known = [None; MOST];
-    let own = &row.conditions[0..row.used as usize];
-    conditions_of(
-        sheet,
-        given,
-        bank,
-        count,
-        &mut known,
-        own,
-        &answers[0..asked],
-    )
+    let answers = &answers_of(branch)[..asked];
+    let given = Given::over(sheet, &row.vector, names);
+    let mut known = [None; MOST_SHEET_TERMS];
+    let own = &row.conditions[..row.used as usize];
+    conditions_of(sheet, given, bank, count, &mut known, own, answers)
 }
 
 /// The row's candidate on the branch.
@@ -92,21 +77,16 @@ pub(crate) fn build<'a>(
     ensures { Added bank.old count.old.terms (terms_in (candidate_with (sheet_of sheet.now) (row_in (sheet_of sheet.now) bank.old row.now) names.now (branch_answers (length (sheet_of sheet.now).questions) branch))) bank.new count.new.terms (StandsFor (sheet_of sheet.now) bank.new count.new.terms 22 (candidate_with (sheet_of sheet.now) (row_in (sheet_of sheet.now) bank.old row.now) names.now (branch_answers (length (sheet_of sheet.now).questions) branch))) result }
 {
     let asked = questions_of(sheet);
-    let answers = answers_of(branch, asked);
-    let answers = &answers[0..asked];
-    let given = Given {
-        terms: sheet.parts.terms.as_slice(),
-        vector: &row.vector[0..readings_of(sheet)],
-        inputs: names,
-    };
-    let mut known = [None; MOST];
-    let own = &row.conditions[0..row.used as usize];
+    let answers = &answers_of(branch)[..asked];
+    let given = Given::over(sheet, &row.vector, names);
+    let mut known = [None; MOST_SHEET_TERMS];
+    let own = &row.conditions[..row.used as usize];
     let conditions = conditions_of(sheet, given, bank, count, &mut known, own, answers)?;
-    let bits = &row.bits[0..bits_of(sheet)];
+    let bits = &row.bits[..bits_of(sheet)];
     let resolved = resolve(sheet, bits, answers);
-    let readings = sheet.parts.readings.as_slice();
+    let readings: &[Reading] = &sheet.parts.readings;
     let vector = next_vector(given, bank, count, &mut known, readings, &resolved.chosen)?;
-    let bits = next_bits(sheet.parts.bits.as_slice(), &resolved.truths, bits);
+    let bits = sheet.next_bits(bits, &resolved.truths);
     let Conditions { list, used } = conditions;
     Ok(RowRecord {
         bits,

@@ -1,5 +1,5 @@
 //! The calls. A refusal leaves the count and the records that were in use as they were.
-ghost use Rattle.std.specs.Prelude.{List};
+ghost use Rattle.std.specs.Prelude.{◌≡◌, List, MatchResult};
 ghost use Rattle.sheet.specs.View.{sheet_of};
 ghost use Rattle.terms.specs.Terms.{Term};
 ghost use Rattle.banks.specs.Room.{Holding};
@@ -9,12 +9,27 @@ ghost use Rattle.candidates.specs.Outcome.{FirstRowMade, FirstRowCounted, Condit
 use crate::building::{build, build_conditions};
 use crate::conditions::Conditions;
 use crate::door::prepare;
-use crate::starting::{start_bits, start_vector};
+use crate::starting::start_row;
 use banks::is_bank;
 use fault::TableFault;
 use rows::RowRecord;
 use sheet::Sheet;
 use terms::{Count, MOST_TERMS, TermRecord};
+
+// What was made; on a refusal the count is again what it was.
+fn or_restored<T>(
+    count: &mut Count,
+    before: u16,
+    made: Result<T, TableFault>,
+) -> Result<T, TableFault>
+    ensures made { result ≡ made }
+    ensures count { MatchResult made (λ _. count.new.terms ≡ count.old.terms) (λ _. count.new.terms ≡ before) }
+{
+    if made.is_err() {
+        count.terms = before;
+    }
+    made
+}
 
 /// Row 0 of a sheet: the start bits, a term for each reading's start, and no condition.
 pub fn first_row(
@@ -29,19 +44,8 @@ pub fn first_row(
         return Err(TableFault::BadMemory);
     }
     let before = count.terms;
-    match start_vector(bank, count, sheet.parts.readings.as_slice()) {
-        Ok(vector) => {
-            let mut row = RowRecord::BLANK;
-            let bits = start_bits(sheet.parts.bits.as_slice());
-            row.bits = bits;
-            row.vector = vector;
-            Ok(row)
-        }
-        Err(fault) => {
-            count.terms = before;
-            Err(fault)
-        }
-    }
+    let made = start_row(sheet, bank, count);
+    or_restored(count, before, made)
 }
 
 /// The conditions of the candidate of a row on a branch: the questions' before the row's own. All that a strike needs.
@@ -58,16 +62,12 @@ pub fn branch_conditions(
 {
     let before = count.terms;
     let names = prepare(sheet, bank, before, row, branch)?;
-    let names = &names[0..sheet.parts.inputs as usize];
-    match build_conditions(sheet, bank, count, row, names, branch) {
-        Ok(conditions) => Ok(conditions),
-        Err(fault) => {
-            count.terms = before;
-            Err(fault)
-        }
-    }
+    let names = &names[..sheet.parts.inputs as usize];
+    let made = build_conditions(sheet, bank, count, row, names, branch);
+    or_restored(count, before, made)
 }
 
+// Not one function with `branch_conditions`: what is built, and what it asks, is another thing in each.
 /// The candidate of a row on a branch.
 pub fn candidate(
     sheet: &Sheet,
@@ -82,12 +82,7 @@ pub fn candidate(
 {
     let before = count.terms;
     let names = prepare(sheet, bank, before, row, branch)?;
-    let names = &names[0..sheet.parts.inputs as usize];
-    match build(sheet, bank, count, row, names, branch) {
-        Ok(made) => Ok(made),
-        Err(fault) => {
-            count.terms = before;
-            Err(fault)
-        }
-    }
+    let names = &names[..sheet.parts.inputs as usize];
+    let made = build(sheet, bank, count, row, names, branch);
+    or_restored(count, before, made)
 }

@@ -1,7 +1,7 @@
 //! The conditions of a branch.
 use terms::Condition;
 
-/// Conditions, of which the first `used` count.
+/// Conditions in memory of fixed size, of which the first `used` count.
 #[derive(Clone, Copy)]
 pub struct Conditions {
     pub list: [Condition; 22],

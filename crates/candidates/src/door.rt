@@ -34,8 +34,5 @@ pub(crate) fn prepare(
         return Err(TableFault::NoSuchBranch);
     }
     let taken = names_of_row(sheet, bank, row);
-    match input_names(taken, sheet.parts.inputs as usize) {
-        Some(names) => Ok(names),
-        None => Err(TableFault::NamesExhausted),
-    }
+    input_names(taken, sheet.parts.inputs as usize).ok_or(TableFault::NamesExhausted)
 }

@@ -10,7 +10,6 @@ mod calls;
 pub mod conditions;
 mod door;
 mod instantiating;
-mod memory;
 mod naming;
 mod resolving;
 mod safety;

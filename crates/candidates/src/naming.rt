@@ -12,11 +12,9 @@ pub(crate) fn input_names(taken: u32, inputs: usize) -> Option<[u8; 4]>
 {
     let mut out = [0; 4];
     let mut names = taken;
-    for i in 0..inputs {
-        let Some(name) = lowest_free(names) else {
-            return None;
-        };
-        out[i] = name;
+    for slot in &mut out[..inputs] {
+        let name = lowest_free(names)?;
+        *slot = name;
         names |= 1u32 << name;
     }
     Some(out)

@@ -14,25 +14,21 @@ ghost use Rattle.candidates.specs.Outcome.{Kept};
 use crate::answers::answers_of;
 use crate::asking::{append, ask, sign_of};
 use crate::conditions::Conditions;
-use crate::instantiating::Given;
+use crate::instantiating::{Given, MOST_SHEET_TERMS};
 use closure::decide;
 use fault::TableFault;
-use rows::{MOST_CONDITIONS, RowRecord, bits_of, is_sound, readings_of};
-use sheet::Sheet;
-use terms::{Condition, Count, MOST_TERMS, TermRecord};
-
-// How many terms a sheet can have.
-const MOST_SHEET_TERMS: usize = 64;
+use rows::{MOST_CONDITIONS, RowRecord, bits_of, is_sound};
+use sheet::{Equation, Sheet};
+use terms::{Condition, Count, CountGuard, MOST_TERMS, TermRecord};
 
 // The conditions, the first of them with the signs of the answers.
-fn signed(list: [Condition; 22], answers: &[bool]) -> [Condition; 22]
+fn signed(mut list: [Condition; 22], answers: &[bool]) -> [Condition; 22]
     requires { length answers.now ≤ 22 }
     ensures front { (k : ℕ) → k < length answers.now → slice_index_or result k no_condition ≡ with_answer (slice_index_or list k no_condition) (slice_index_or answers.now k false) }
     ensures back { (k : ℕ) → length answers.now ≤ k → slice_index_or result k no_condition ≡ slice_index_or list k no_condition }
 {
-    let mut list = list;
-    for k in 0..answers.len() {
-        list[k].sign = sign_of(answers[k]);
+    for (k, answer) in answers.iter().enumerate() {
+        list[k].sign = sign_of(*answer);
     }
     list
 }
@@ -51,17 +47,14 @@ fn is_breaking(
     requires used { conditions.used ≤ 22 }
     ensures { (form : Row) → Laid (sheet_of sheet.now) form bank.now count.terms conditions.list conditions.used → form.bits ≡ bits.now → 512 ≤ length labels.old → Tried (sheet_of sheet.now) form case result }
 {
-    let claims = sheet.parts.claims.as_slice().len();
-    let answers = answers_of(case, claims);
-    let answers = &answers[0..claims];
+    let claims = sheet.parts.claims.len();
+    let answers = &answers_of(case)[..claims];
     if sheet.truth(sheet.invariant, bits, &[], answers) {
         return Ok(false);
     }
     let list = signed(conditions.list, answers);
-    match decide(bank, count, &list[0..conditions.used as usize], labels) {
-        Ok(verdict) => Ok(!verdict.impossible),
-        Err(fault) => Err(fault),
-    }
+    let verdict = decide(bank, count, &list[..conditions.used as usize], labels)?;
+    Ok(!verdict.impossible)
 }
 
 // Whether no case of the claims has a false invariant and is allowed by the conditions.
@@ -77,7 +70,7 @@ fn is_unbroken(
     requires used { conditions.used ≤ 22 }
     ensures { (form : Row) → Laid (sheet_of sheet.now) form bank.now count.terms conditions.list conditions.used → form.bits ≡ bits.now → 512 ≤ length labels.old → Searched (sheet_of sheet.now) form result }
 {
-    let cases = 1u8 << sheet.parts.claims.as_slice().len();
+    let cases = 1u8 << sheet.parts.claims.len();
     for case in 0..cases {
         if is_breaking(sheet, bank, count, bits, conditions, case, labels)? {
             return Ok(false);
@@ -99,25 +92,14 @@ fn judge<'a>(
     requires labelled { 512 ≤ length labels.old }
     ensures { Added bank.old count.old.terms (claim_terms (sheet_of sheet.now) (row_in (sheet_of sheet.now) bank.old form.now)) bank.new count.new.terms (Unbroken (sheet_of sheet.now) (row_in (sheet_of sheet.now) bank.old form.now)) result }
 {
-    let claims = sheet.parts.claims.as_slice();
-    let given = Given {
-        terms: sheet.parts.terms.as_slice(),
-        vector: &form.vector[0..readings_of(sheet)],
-        inputs: &[],
-    };
+    let claims: &[Equation] = &sheet.parts.claims;
+    let given = Given::over(sheet, &form.vector, &[]);
     let mut known = [None; MOST_SHEET_TERMS];
-    let first = answers_of(0, claims.len());
-    let list = ask(
-        given,
-        bank,
-        count,
-        &mut known,
-        claims,
-        &first[0..claims.len()],
-    )?;
-    let own = &form.conditions[0..form.used as usize];
+    let first = &answers_of(0)[..claims.len()];
+    let list = ask(given, bank, count, &mut known, claims, first)?;
+    let own = &form.conditions[..form.used as usize];
     let conditions = append(list, claims.len(), own);
-    let bits = &form.bits[0..bits_of(sheet)];
+    let bits = &form.bits[..bits_of(sheet)];
     is_unbroken(sheet, bank, *count, bits, conditions, labels)
 }
 
@@ -137,8 +119,6 @@ pub fn is_safe(
     if labels.len() < MOST_TERMS || !is_sound(sheet, bank, terms, MOST_CONDITIONS as u8, form) {
         return Err(TableFault::BadMemory);
     }
-    let start = *count;
-    let result = judge(sheet, bank, count, form, labels);
-    *count = start;
-    result
+    let guard = CountGuard::new(&mut *count);
+    judge(sheet, bank, &mut *guard.count, form, labels)
 }

@@ -1,34 +1,13 @@
-//! The bits and the vector of a successor. All next values come from the old row.
-ghost use Rattle.std.specs.Prelude.{◌≡◌, ◌<◌, ◌≤◌, false, [], ◌∷◌, length, get_or, take, slice_index_or};
-ghost use Rattle.sheet.specs.Runs.{numbered, or_kept};
+//! The vector of a successor. All next values come from the old row.
+ghost use Rattle.std.specs.Prelude.{◌≤◌, [], ◌∷◌, length};
+ghost use Rattle.sheet.specs.Runs.{numbered};
 ghost use Rattle.candidates.specs.Working.{Walks, At, Vectored, next_over};
 
 use crate::instantiating::{Given, place_of, reading_place};
 use fault::TableFault;
 use rows::at_or;
-use sheet::{Bit, Reading};
+use sheet::Reading;
 use terms::{Count, TermRecord};
-
-fn next_bit(next: Option<u8>, kept: bool, truths: &[bool]) -> bool
-    ensures { result ≡ or_kept (λ f. get_or truths.now f false) kept next }
-{
-    match next {
-        None => kept,
-        Some(formula) => at_or(truths, formula as usize, false),
-    }
-}
-
-/// The next value of each bit, by the truth of the formulas.
-pub(crate) fn next_bits(bits: &[Bit], truths: &[bool], old: &[bool]) -> [bool; 16]
-    requires { length bits.now ≤ 16 }
-    ensures { take (length bits.now) result ≡ numbered (λ n b. or_kept (λ f. get_or truths.now f false) (slice_index_or old.now n false) b.next) 0 bits.now }
-{
-    let mut out = [false; 16];
-    for k in 0..bits.len() {
-        out[k] = next_bit(bits[k].next, at_or(old, k, false), truths);
-    }
-    out
-}
 
 fn next_place(
     given: Given<'_>,
@@ -63,8 +42,8 @@ pub(crate) fn next_vector(
     ensures { Walks given.entry.terms.now given.entry.vector.now given.entry.inputs.now bank.old count.old.terms known.old (λ v values. numbered (λ n x. next_over chosen.now v values n x.next) 0 readings.now) bank.new count.new.terms known.new (λ v values. Vectored bank.new count.new.terms (numbered (λ n x. next_over chosen.now v values n x.next) 0 readings.now) (length readings.now)) result }
 {
     let mut out = [0; 6];
-    for k in 0..readings.len() {
-        out[k] = next_place(given, bank, count, known, k, readings[k].next, chosen)?;
+    for (k, reading) in readings.iter().enumerate() {
+        out[k] = next_place(given, bank, count, known, k, reading.next, chosen)?;
     }
     Ok(out)
 }

@@ -7,7 +7,8 @@ use Rattle.candidates.specs.Working.{literal_for, no_literal}
 use Rattle.candidates.proofs.Walking.{walked_start}
 use Rattle.std.proofs.lemmas.List.{take_all, length-set}
 use Rattle.banks.specs.Gains.{Gained}
-use Rattle.candidates.proofs.Listing.{added_break, asked_more, asked_break, numbered_at, numbered-length, no_equation}
+use Rattle.sheet.proofs.Numbering.{numbered_at, numbered-length}
+use Rattle.candidates.proofs.Listing.{added_break, asked_more, asked_break, no_equation}
 use Rattle.candidates.proofs.asking.ask.Goals as goal
 
 pub returns-in_err-list : goal.returns-in_err-list

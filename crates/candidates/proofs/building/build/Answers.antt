@@ -1,17 +1,14 @@
-use Rattle.std.proofs.Common.{◌≡◌, ℕ, ◌-◌, ◌≤◌, Bool, false, List, [], map, length, get_or, take, Ok, Err, ap, ◌∙◌, ap₂, arith, rules}
-use Rattle.sheet.specs.Stored.{term_in}
+use Rattle.std.proofs.Common.{◌≡◌, ℕ, ◌≤◌, Bool, false, List, [], length, get_or, take, Ok, Err, refl, ap, ◌∙◌, ap₂, arith, rules}
 use Rattle.sheet.specs.Truth.{truths, chosen}
 use Rattle.sheet.specs.View.{sheet_of}
 use Rattle.forms.specs.Candidate.{branch_answers, candidate_with}
 use Rattle.forms.specs.Counted.{terms_in}
 use Rattle.rows.specs.Records.{row_in}
-use Rattle.candidates.proofs.Lawfully.{few_questions, few_readings, few_bits}
+use Rattle.sheet.proofs.Fewness.{few_bits}
+use Rattle.candidates.proofs.Lawfully.{few_questions, few_asked, few_readings}
 use Rattle.candidates.proofs.Listing.{added_break}
 use Rattle.candidates.proofs.Completing.{conditions_joined, conditions_refused, vector_placed, vector_refused, row_built, bits_built}
 use Rattle.candidates.proofs.building.build.Goals as goal
-
-pub answers_of-answers-requires : goal.answers_of-answers-requires
-answers_of-answers-requires c = omega (arith, c.questions_of-asked.ensures, few_questions (sheet_of c.args.sheet.now) c.args.sheet.now.lawful)
 
 pub slice_bounds-answers-end : goal.slice_bounds-answers-end
 slice_bounds-answers-end c =
@@ -25,21 +22,14 @@ returns-in_err-conditions c =
     let rs = c.args.bank.now in
     let n = c.args.count.now.terms in
     let row = c.args.row.now in
-    let m : c.readings_of.result - 0 ≡ length s.readings = omega (arith, c.readings_of.ensures) in
-    let q : c.questions_of-asked.result - 0 ≡ c.questions_of-asked.result = omega arith in
-    let u : row.used - 0 ≡ row.used = omega arith in
-    let entries = c.as_slice.result.now in
-    let places = take (c.readings_of.result - 0) row.vector in
-    let mine = take (row.used - 0) row.conditions in
-    let answers = take (c.questions_of-asked.result - 0) c.answers_of-answers.result in
-    let terms_are = ap (map term_in) c.as_slice.ensures.value in
-    let places_are = ap (λ k. take k row.vector) m in
-    let mine_are = ap (λ k. take k row.conditions) u in
-    let answers_are : answers ≡ branch_answers (length s.questions) c.args.branch = ap (λ k. take k c.answers_of-answers.result) q ∙ (c.answers_of-answers.ensures ∙ ap (λ k. branch_answers k c.args.branch) c.questions_of-asked.ensures) in
+    let given = c.over-given.result in
+    let mine = take row.used row.conditions in
+    let answers = take c.questions_of-asked.result c.answers_of.result in
+    let answers_are : answers ≡ branch_answers (length s.questions) c.args.branch = (c.answers_of.ensures c.questions_of-asked.result (few_asked s c.args.sheet.now.lawful c.questions_of-asked.result c.questions_of-asked.ensures) ∙ ap (λ k. branch_answers k c.args.branch) c.questions_of-asked.ensures) in
     let next = candidate_with s (row_in s rs row) c.args.names.now (branch_answers (length s.questions) c.args.branch) in
-    let x = conditions_joined s rs n row c.requires.sound few c.args.names.now c.requires.names c.args.branch entries places answers terms_are places_are answers_are c.conditions_of.new.bank c.conditions_of.new.count.terms c.conditions_of.new.known mine mine_are (Err c.in_err-conditions.field-0.0) c.in_err-conditions.ensures in
+    let x = conditions_joined s rs n row c.requires.sound few c.args.names.now c.requires.names c.args.branch given.terms.now given.vector.now answers c.over-given.ensures.terms c.over-given.ensures.vector answers_are given.inputs.now c.over-given.ensures.inputs c.conditions_of.new.bank c.conditions_of.new.count.terms c.conditions_of.new.known mine refl (Err c.in_err-conditions.field-0.0) c.in_err-conditions.ensures in
     added_break rs n (terms_in next) c.conditions_of.new.bank c.conditions_of.new.count.terms _ c.in_err-conditions.field-0.0 c.from_residual.result x.0
-    (conditions_refused s rs n row c.requires.sound few c.args.names.now c.requires.names c.args.branch entries places answers terms_are places_are answers_are c.conditions_of.new.bank c.conditions_of.new.count.terms c.conditions_of.new.known x.1, x.2) c.from_residual.ensures.1
+    (conditions_refused s rs n row c.requires.sound few c.args.names.now c.requires.names c.args.branch given.terms.now given.vector.now answers c.over-given.ensures.terms c.over-given.ensures.vector answers_are given.inputs.now c.over-given.ensures.inputs c.conditions_of.new.bank c.conditions_of.new.count.terms c.conditions_of.new.known x.1, x.2) c.from_residual.ensures.1
 
 pub returns-in_err-vector : goal.returns-in_err-vector
 returns-in_err-vector c =
@@ -48,25 +38,17 @@ returns-in_err-vector c =
     let rs = c.args.bank.now in
     let n = c.args.count.now.terms in
     let row = c.args.row.now in
-    let m : c.readings_of.result - 0 ≡ length s.readings = omega (arith, c.readings_of.ensures) in
-    let q : c.questions_of-asked.result - 0 ≡ c.questions_of-asked.result = omega arith in
-    let u : row.used - 0 ≡ row.used = omega arith in
-    let entries = c.as_slice.result.now in
-    let places = take (c.readings_of.result - 0) row.vector in
-    let mine = take (row.used - 0) row.conditions in
-    let answers = take (c.questions_of-asked.result - 0) c.answers_of-answers.result in
-    let terms_are = ap (map term_in) c.as_slice.ensures.value in
-    let places_are = ap (λ k. take k row.vector) m in
-    let mine_are = ap (λ k. take k row.conditions) u in
-    let answers_are : answers ≡ branch_answers (length s.questions) c.args.branch = ap (λ k. take k c.answers_of-answers.result) q ∙ (c.answers_of-answers.ensures ∙ ap (λ k. branch_answers k c.args.branch) c.questions_of-asked.ensures) in
+    let given = c.over-given.result in
+    let mine = take row.used row.conditions in
+    let answers = take c.questions_of-asked.result c.answers_of.result in
+    let answers_are : answers ≡ branch_answers (length s.questions) c.args.branch = (c.answers_of.ensures c.questions_of-asked.result (few_asked s c.args.sheet.now.lawful c.questions_of-asked.result c.questions_of-asked.ensures) ∙ ap (λ k. branch_answers k c.args.branch) c.questions_of-asked.ensures) in
     let next = candidate_with s (row_in s rs row) c.args.names.now (branch_answers (length s.questions) c.args.branch) in
-    let x = conditions_joined s rs n row c.requires.sound few c.args.names.now c.requires.names c.args.branch entries places answers terms_are places_are answers_are c.conditions_of.new.bank c.conditions_of.new.count.terms c.conditions_of.new.known mine mine_are (Ok c.in_ok-conditions.conditions) c.in_ok-conditions.ensures in
-    let o : c.bits_of.result - 0 ≡ length s.bits = omega (arith, c.bits_of.ensures) in
-    let bits_are = ap (λ k. take k row.bits) o in
+    let x = conditions_joined s rs n row c.requires.sound few c.args.names.now c.requires.names c.args.branch given.terms.now given.vector.now answers c.over-given.ensures.terms c.over-given.ensures.vector answers_are given.inputs.now c.over-given.ensures.inputs c.conditions_of.new.bank c.conditions_of.new.count.terms c.conditions_of.new.known mine refl (Ok c.in_ok-conditions.conditions) c.in_ok-conditions.ensures in
+    let bits_are = ap (λ k. take k row.bits) c.bits_of.ensures in
     let right = λ (k : ℕ). c.resolve-resolved.ensures.chosen k ∙ ap₂ (λ (bs rs' : List Bool). get_or (chosen (λ f. get_or (truths bs rs' [] s.formulas) f false) s.choices) k 0) bits_are answers_are in
-    let y = vector_placed s rs n row c.requires.sound few c.args.names.now c.requires.names c.args.branch entries places answers terms_are places_are answers_are c.conditions_of.new.bank c.conditions_of.new.count.terms c.conditions_of.new.known x.0 x.1.recalled c.conditions_of.auto.bank c.next_vector.new.bank c.next_vector.new.count.terms c.next_vector.new.known c.resolve-resolved.result.chosen right c.as_slice-readings.result.now c.as_slice-readings.ensures.value (Err c.in_err-vector.field-0.0) c.in_err-vector.ensures in
+    let y = vector_placed s rs n row c.requires.sound few c.args.names.now c.requires.names c.args.branch given.terms.now given.vector.now answers c.over-given.ensures.terms c.over-given.ensures.vector answers_are given.inputs.now c.over-given.ensures.inputs c.conditions_of.new.bank c.conditions_of.new.count.terms c.conditions_of.new.known x.0 x.1.recalled c.conditions_of.auto.bank c.next_vector.new.bank c.next_vector.new.count.terms c.next_vector.new.known c.resolve-resolved.result.chosen right c.deref-readings.result.now c.deref-readings.ensures.value (Err c.in_err-vector.field-0.0) c.in_err-vector.ensures in
     added_break rs n (terms_in next) c.next_vector.new.bank c.next_vector.new.count.terms _ c.in_err-vector.field-0.0 c.from_residual-in_err-vector.result y.0
-    (vector_refused s rs n row c.requires.sound few c.args.names.now c.requires.names c.args.branch entries places answers terms_are places_are answers_are c.conditions_of.new.bank c.conditions_of.new.count.terms c.conditions_of.new.known x.0 x.1.recalled c.conditions_of.auto.bank c.next_vector.new.bank c.next_vector.new.count.terms c.next_vector.new.known y.1 y.2) c.from_residual-in_err-vector.ensures.1
+    (vector_refused s rs n row c.requires.sound few c.args.names.now c.requires.names c.args.branch given.terms.now given.vector.now answers c.over-given.ensures.terms c.over-given.ensures.vector answers_are given.inputs.now c.over-given.ensures.inputs c.conditions_of.new.bank c.conditions_of.new.count.terms c.conditions_of.new.known x.0 x.1.recalled c.conditions_of.auto.bank c.next_vector.new.bank c.next_vector.new.count.terms c.next_vector.new.known y.1 y.2) c.from_residual-in_err-vector.ensures.1
 
 pub returns : goal.returns
 returns c =
@@ -75,25 +57,17 @@ returns c =
     let rs = c.args.bank.now in
     let n = c.args.count.now.terms in
     let row = c.args.row.now in
-    let m : c.readings_of.result - 0 ≡ length s.readings = omega (arith, c.readings_of.ensures) in
-    let q : c.questions_of-asked.result - 0 ≡ c.questions_of-asked.result = omega arith in
-    let u : row.used - 0 ≡ row.used = omega arith in
-    let entries = c.as_slice.result.now in
-    let places = take (c.readings_of.result - 0) row.vector in
-    let mine = take (row.used - 0) row.conditions in
-    let answers = take (c.questions_of-asked.result - 0) c.answers_of-answers.result in
-    let terms_are = ap (map term_in) c.as_slice.ensures.value in
-    let places_are = ap (λ k. take k row.vector) m in
-    let mine_are = ap (λ k. take k row.conditions) u in
-    let answers_are : answers ≡ branch_answers (length s.questions) c.args.branch = ap (λ k. take k c.answers_of-answers.result) q ∙ (c.answers_of-answers.ensures ∙ ap (λ k. branch_answers k c.args.branch) c.questions_of-asked.ensures) in
+    let given = c.over-given.result in
+    let mine = take row.used row.conditions in
+    let answers = take c.questions_of-asked.result c.answers_of.result in
+    let answers_are : answers ≡ branch_answers (length s.questions) c.args.branch = (c.answers_of.ensures c.questions_of-asked.result (few_asked s c.args.sheet.now.lawful c.questions_of-asked.result c.questions_of-asked.ensures) ∙ ap (λ k. branch_answers k c.args.branch) c.questions_of-asked.ensures) in
     let next = candidate_with s (row_in s rs row) c.args.names.now (branch_answers (length s.questions) c.args.branch) in
-    let x = conditions_joined s rs n row c.requires.sound few c.args.names.now c.requires.names c.args.branch entries places answers terms_are places_are answers_are c.conditions_of.new.bank c.conditions_of.new.count.terms c.conditions_of.new.known mine mine_are (Ok c.in_ok-conditions.conditions) c.in_ok-conditions.ensures in
-    let o : c.bits_of.result - 0 ≡ length s.bits = omega (arith, c.bits_of.ensures) in
-    let bits_are = ap (λ k. take k row.bits) o in
+    let x = conditions_joined s rs n row c.requires.sound few c.args.names.now c.requires.names c.args.branch given.terms.now given.vector.now answers c.over-given.ensures.terms c.over-given.ensures.vector answers_are given.inputs.now c.over-given.ensures.inputs c.conditions_of.new.bank c.conditions_of.new.count.terms c.conditions_of.new.known mine refl (Ok c.in_ok-conditions.conditions) c.in_ok-conditions.ensures in
+    let bits_are = ap (λ k. take k row.bits) c.bits_of.ensures in
     let right = λ (k : ℕ). c.resolve-resolved.ensures.chosen k ∙ ap₂ (λ (bs rs' : List Bool). get_or (chosen (λ f. get_or (truths bs rs' [] s.formulas) f false) s.choices) k 0) bits_are answers_are in
-    let y = vector_placed s rs n row c.requires.sound few c.args.names.now c.requires.names c.args.branch entries places answers terms_are places_are answers_are c.conditions_of.new.bank c.conditions_of.new.count.terms c.conditions_of.new.known x.0 x.1.recalled c.conditions_of.auto.bank c.next_vector.new.bank c.next_vector.new.count.terms c.next_vector.new.known c.resolve-resolved.result.chosen right c.as_slice-readings.result.now c.as_slice-readings.ensures.value (Ok c.in_ok-vector.vector) c.in_ok-vector.ensures in
+    let y = vector_placed s rs n row c.requires.sound few c.args.names.now c.requires.names c.args.branch given.terms.now given.vector.now answers c.over-given.ensures.terms c.over-given.ensures.vector answers_are given.inputs.now c.over-given.ensures.inputs c.conditions_of.new.bank c.conditions_of.new.count.terms c.conditions_of.new.known x.0 x.1.recalled c.conditions_of.auto.bank c.next_vector.new.bank c.next_vector.new.count.terms c.next_vector.new.known c.resolve-resolved.result.chosen right c.deref-readings.result.now c.deref-readings.ensures.value (Ok c.in_ok-vector.vector) c.in_ok-vector.ensures in
     let true' = λ (f : ℕ). c.resolve-resolved.ensures.truths f ∙ ap₂ (λ (bs rs' : List Bool). get_or (truths bs rs' [] s.formulas) f false) bits_are answers_are in
-    let bits = bits_built s rs n row c.requires.sound few c.args.names.now c.requires.names c.args.branch c.as_slice-2.result.now c.as_slice-2.ensures.value (take (c.bits_of.result - 0) row.bits) bits_are c.resolve-resolved.result.truths true' c.next_bits-bits.result c.next_bits-bits.ensures in
+    let bits = bits_built s rs n row c.requires.sound few c.args.names.now c.requires.names c.args.branch (take c.bits_of.result row.bits) bits_are c.resolve-resolved.result.truths true' c.next_bits-bits.result c.next_bits-bits.ensures.value in
     let bits_room : length c.next_bits-bits.result ≡ 16 = search rules in
     let vector_room : length c.in_ok-vector.vector ≡ 6 = search rules in
-    row_built s rs n row c.requires.sound few c.args.names.now c.requires.names c.args.branch entries places answers terms_are places_are answers_are c.conditions_of.new.bank c.conditions_of.new.count.terms c.conditions_of.new.known x.0 x.1.recalled c.conditions_of.auto.bank c.next_vector.new.bank c.next_vector.new.count.terms c.next_vector.new.known c.in_ok-conditions.conditions c.next_bits-bits.result c.in_ok-vector.vector x.1.made y.0 y.1.made bits (omega (arith, few_bits s c.args.sheet.now.lawful)) (omega (arith, few_readings s c.args.sheet.now.lawful))
+    row_built s rs n row c.requires.sound few c.args.names.now c.requires.names c.args.branch given.terms.now given.vector.now answers c.over-given.ensures.terms c.over-given.ensures.vector answers_are given.inputs.now c.over-given.ensures.inputs c.conditions_of.new.bank c.conditions_of.new.count.terms c.conditions_of.new.known x.0 x.1.recalled c.conditions_of.auto.bank c.next_vector.new.bank c.next_vector.new.count.terms c.next_vector.new.known c.in_ok-conditions.conditions c.next_bits-bits.result c.in_ok-vector.vector x.1.made y.0 y.1.made bits (omega (arith, few_bits s c.args.sheet.now.lawful)) (omega (arith, few_readings s c.args.sheet.now.lawful))

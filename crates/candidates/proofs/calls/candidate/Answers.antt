@@ -1,10 +1,7 @@
-use Rattle.std.proofs.Common.{◌≡◌, ◌-◌, ◌≤◌, take, Some, Ok, Err, sym, ap, ◌∙◌, arith, rules}
+use Rattle.std.proofs.Common.{◌≤◌, take, rules}
 use Rattle.sheet.specs.View.{sheet_of}
-use Rattle.forms.specs.Candidate.{input_names}
-use Rattle.forms.specs.Counted.{terms_in}
-use Rattle.rows.specs.Records.{row_in}
 use Rattle.candidates.proofs.Lawfully.{few_inputs}
-use Rattle.candidates.proofs.Answering.{candidate_break, candidate_counted, candidate_made, terms_refused, small_part}
+use Rattle.candidates.proofs.Answering.{candidate_break, candidate_counted, candidate_answered, small_part}
 use Rattle.candidates.proofs.Purposes.{candidate_covering}
 use Rattle.candidates.proofs.calls.candidate.Goals as goal
 
@@ -21,32 +18,22 @@ slice_bounds-names-end c =
     let few : c.args.sheet.now.parts.inputs ≤ 4 = few_inputs (sheet_of c.args.sheet.now) c.args.sheet.now.lawful in
     search rules
 
-pub build-requires : goal.build-requires
-build-requires c =
+pub build-made-requires : goal.build-made-requires
+build-made-requires c =
     let prepared = c.in_ok-names.ensures in
-    record { sound = prepared.0.sound; names = small_part (c.args.sheet.now.parts.inputs - 0) c.in_ok-names.names prepared.2 }
+    record { sound = prepared.0.sound; names = small_part c.args.sheet.now.parts.inputs c.in_ok-names.names prepared.2 }
 
-pub returns-in-Ok : goal.returns-in-Ok
-returns-in-Ok c =
+pub returns : goal.returns
+returns c =
     let s = sheet_of c.args.sheet.now in
     let rs = c.args.bank.now in
     let n = c.args.count.now.terms in
+    let row = c.args.row.now in
+    let b = c.args.branch in
+    let rs' = c.build-made.new.bank in
+    let n' = c.or_restored.new.count.terms in
+    let r = c.or_restored.result in
     let prepared = c.in_ok-names.ensures in
-    let m : s.inputs - 0 ≡ s.inputs = omega arith in
-    let names = take (s.inputs - 0) c.in_ok-names.names in
-    let is : input_names s (row_in s rs c.args.row.now) ≡ Some names = prepared.1 ∙ ap (λ k. Some (take k c.in_ok-names.names)) (sym m) in
-    let done = candidate_made s rs n c.args.row.now c.args.branch names is prepared.0 c.build.new.bank c.build.new.count.terms c.in-Ok.made c.in-Ok.ensures in
-    record { made = done; covers = candidate_covering s c.args.sheet.now.lawful rs n c.args.row.now c.args.branch c.build.new.bank c.build.new.count.terms (Ok c.in-Ok.made) done; counted = λ seen holding. candidate_counted s rs n c.args.row.now c.args.branch seen holding c.build.new.bank c.build.new.count.terms (Ok c.in-Ok.made) done }
-
-pub returns-in-Err : goal.returns-in-Err
-returns-in-Err c =
-    let s = sheet_of c.args.sheet.now in
-    let rs = c.args.bank.now in
-    let n = c.args.count.now.terms in
-    let prepared = c.in_ok-names.ensures in
-    let m : s.inputs - 0 ≡ s.inputs = omega arith in
-    let names = take (s.inputs - 0) c.in_ok-names.names in
-    let is : input_names s (row_in s rs c.args.row.now) ≡ Some names = prepared.1 ∙ ap (λ k. Some (take k c.in_ok-names.names)) (sym m) in
-    let x = c.in-Err.ensures in
-    let done = terms_refused s rs n c.args.row.now c.args.branch names is prepared.0 c.build.new.bank c.build.new.count.terms (terms_in) c.in-Err.fault x.0 x.1 x.2 in
-    record { made = done; covers = candidate_covering s c.args.sheet.now.lawful rs n c.args.row.now c.args.branch c.build.new.bank n (Err c.in-Err.fault) done; counted = λ seen holding. candidate_counted s rs n c.args.row.now c.args.branch seen holding c.build.new.bank n (Err c.in-Err.fault) done }
+    let names = take s.inputs c.in_ok-names.names in
+    let done = candidate_answered s rs n row b names prepared.1 prepared.0 rs' c.build-made.new.count.terms n' c.build-made.result r c.build-made.ensures c.or_restored.ensures.made c.or_restored.ensures.count in
+    record { made = done; covers = candidate_covering s c.args.sheet.now.lawful rs n row b rs' n' r done; counted = λ seen holding. candidate_counted s rs n row b seen holding rs' n' r done }

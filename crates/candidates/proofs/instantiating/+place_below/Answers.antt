@@ -7,19 +7,19 @@ use Rattle.terms.specs.Terms.{name, unary, binary, ternary}
 use Rattle.forms.specs.Candidate.{no_term, terms_over}
 use Rattle.candidates.specs.Working.{Placed}
 use Rattle.candidates.proofs.Walking.{placed_interned, placed_held, walked_start, walked_more, walked_placed, walked_break, over_none, over_past, over_here, over_reading, over_input, over_zero, over_one, over_two, over_three, has_unary, has_binary, has_ternary, ternary_same}
+use Rattle.candidates.proofs.instantiating.+place_below.Goals.{then-n-below-via-then-n-below, then-n-below-via-else-n-below+then-n-given}
 use Rattle.candidates.proofs.instantiating.+place_below.Goals as goal
 
 pub returns-then-n-below : goal.returns-then-n-below
 returns-then-n-below t c v over started =
     let values = terms_over v c.args.given.inputs.now (map term_in c.args.given.terms.now) in
     let whole = before no_term values c.args.n c.args.below in
-    placed_interned values c.args.bank.now c.intern.new.bank c.args.count.now.terms c.intern.new.count.terms c.args.known.now (Name 0) whole started (sym (over_none v c.args.given.inputs.now c.args.given.terms.now c.args.n c.args.below c.if-n-below.true)) c.intern.result (c.intern.ensures.terms started.bank (omega arith)) c.intern.ensures.nodes
-
-pub returns-then-n-given : goal.returns-then-n-given
-returns-then-n-given t c v over started =
-    let values = terms_over v c.args.given.inputs.now (map term_in c.args.given.terms.now) in
-    let whole = before no_term values c.args.n c.args.below in
-    placed_interned values c.args.bank.now c.intern-then-n-given.new.bank c.args.count.now.terms c.intern-then-n-given.new.count.terms c.args.known.now (Name 0) whole started (sym (over_past v c.args.given.inputs.now c.args.given.terms.now c.args.n c.args.below c.if-n-given.true)) c.intern-then-n-given.result (c.intern-then-n-given.ensures.terms started.bank (omega arith)) c.intern-then-n-given.ensures.nodes
+    let none : whole ≡ no_term =
+    elim c.then-n-below.branch [
+      | then-n-below-via-then-n-below w ↦ over_none v c.args.given.inputs.now c.args.given.terms.now c.args.n c.args.below w.if-n-below.true
+      | then-n-below-via-else-n-below+then-n-given w ↦ over_past v c.args.given.inputs.now c.args.given.terms.now c.args.n c.args.below w.if-n-given.true
+    ] in
+    placed_interned values c.args.bank.now c.intern.new.bank c.args.count.now.terms c.intern.new.count.terms c.args.known.now (Name 0) whole started (sym none) c.intern.result (c.intern.ensures.terms started.bank (omega arith)) c.intern.ensures.nodes
 
 pub returns-in-Some : goal.returns-in-Some
 returns-in-Some t c v over started =

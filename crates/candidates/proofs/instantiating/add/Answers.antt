@@ -1,13 +1,15 @@
 use Rattle.std.proofs.Common.{Err}
 use Rattle.candidates.proofs.Walking.{placed_interned, placed_remembered}
+use Rattle.candidates.proofs.Listing.{added_break}
 use Rattle.candidates.proofs.instantiating.add.Goals as goal
 
-pub returns-in-Ok : goal.returns-in-Ok
-returns-in-Ok c values started fit t is at =
-    let i = c.in-Ok.ensures in
-    placed_remembered values c.args.bank.now c.intern.new.bank c.args.count.now.terms c.intern.new.count.terms c.args.known.now c.args.node t started is c.args.n c.in-Ok.place c.remember.new.known (i.terms started.bank fit) i.nodes at c.remember.ensures
+pub returns-in_err-place : goal.returns-in_err-place
+returns-in_err-place c values started fit t is at =
+    let i = c.in_err-place.ensures in
+    let x = placed_interned values c.args.bank.now c.intern.new.bank c.args.count.now.terms c.intern.new.count.terms c.args.known.now c.args.node t started is (Err c.in_err-place.field-0.0) (i.terms started.bank fit) i.nodes in
+    added_break c.args.bank.now c.args.count.now.terms _ c.intern.new.bank c.intern.new.count.terms _ c.in_err-place.field-0.0 c.from_residual.result x.0 (x.1, x.2) c.from_residual.ensures.1
 
-pub returns-in-Err : goal.returns-in-Err
-returns-in-Err c values started fit t is at =
-    let i = c.in-Err.ensures in
-    placed_interned values c.args.bank.now c.intern.new.bank c.args.count.now.terms c.intern.new.count.terms c.args.known.now c.args.node t started is (Err c.in-Err.fault) (i.terms started.bank fit) i.nodes
+pub returns : goal.returns
+returns c values started fit t is at =
+    let i = c.in_ok-place.ensures in
+    placed_remembered values c.args.bank.now c.intern.new.bank c.args.count.now.terms c.intern.new.count.terms c.args.known.now c.args.node t started is c.args.n c.in_ok-place.place c.remember.new.known (i.terms started.bank fit) i.nodes at c.remember.ensures

@@ -1,36 +1,45 @@
-use Rattle.std.proofs.Common.{◌≡◌, suc, ◌+◌, ◌-◌, ◌*◌, ◌%◌, ◌^◌, [], ◌∷◌, ◌++◌, take, Some, sym, refl, ap, ◌∙◌, arith}
-use lib.Bits.{bit_or}
+use Rattle.std.proofs.Common.{◌≡◌, suc, ◌+◌, ◌-◌, ◌*◌, ◌%◌, ◌^◌, [], ◌∷◌, ◌++◌, take, replicate, Some, sym, ap, ◌∙◌, arith, length-set}
+use Rattle.std.specs.Prelude.{bit_or}
 use Rattle.std.proofs.lemmas.Nat.{one_shl}
-use Rattle.std.proofs.lemmas.List.{length-set, take_more_set}
+use Rattle.std.proofs.lemmas.List.{take_more_set, take-append-le}
 use Rattle.forms.specs.Candidate.{or_none, names_for}
 use Rattle.rows.specs.Names.{is_in}
-use Rattle.candidates.proofs.Filling.{named_start, named_more, named_all, named_none, free_small, small-set, zeros-small}
+use Rattle.candidates.proofs.Filling.{named_more, named_all, named_none, free_small, small-set, small-append, small-drop, zeros-small}
 use Rattle.candidates.proofs.naming.input_names.Goals as goal
 
-pub loop-i-init : goal.loop-i-init
-loop-i-init c = (refl, zeros-small 4, named_start c.args.inputs (is_in c.args.taken))
+pub returns-in_err-name : goal.returns-in_err-name
+returns-in_err-name c =
+    let i = c.loop-slot.slot-index in
+    let m : c.args.inputs - i ≡ suc (c.args.inputs - (i + 1)) = omega (arith, c.loop-slot-test.true, c.loop-slot.invariant.0) in
+    let none = c.loop-slot.invariant.2
+    ∙ (ap (λ k. or_none (names_for k (is_in c.loop-slot.names)) (λ ys. Some (take i c.loop-slot.slot-items ++ ys))) m
+    ∙ named_none (c.args.inputs - (i + 1)) c.loop-slot.names (take i c.loop-slot.slot-items) (sym c.in_err-name.ensures)) in
+    rw c.from_residual.ensures none
 
-pub returns-in_default : goal.returns-in_default
-returns-in_default c =
-    let m : c.args.inputs - c.loop-i.i ≡ suc (c.args.inputs - (c.loop-i.i + 1)) = omega arith in
-    c.loop-i.invariant.2
-    ∙ (ap (λ k. or_none (names_for k (is_in c.loop-i.names)) (λ ys. Some (take c.loop-i.i c.loop-i.out ++ ys))) m
-    ∙ named_none (c.args.inputs - (c.loop-i.i + 1)) c.loop-i.names (take c.loop-i.i c.loop-i.out) (sym c.in_default.ensures))
-
-pub loop-i-preserved : goal.loop-i-preserved
-loop-i-preserved c =
-    let x = c.in-Some.name in
-    let m : c.args.inputs - c.loop-i.i ≡ suc (c.args.inputs - (c.loop-i.i + 1)) = omega arith in
-    let is = sym c.in-Some.ensures in
-    let small = free_small (is_in c.loop-i.names) x is in (
-      length-set c.loop-i.out c.loop-i.i x ∙ c.loop-i.invariant.0,
-      small-set 32 c.loop-i.out c.loop-i.i x c.loop-i.invariant.1 small,
-      c.loop-i.invariant.2
-          ∙ (ap (λ k. or_none (names_for k (is_in c.loop-i.names)) (λ ys. Some (take c.loop-i.i c.loop-i.out ++ ys))) m
-          ∙ (named_more (c.args.inputs - (c.loop-i.i + 1)) c.loop-i.names x (take c.loop-i.i c.loop-i.out) is
-          ∙ (ap (λ k. or_none (names_for (c.args.inputs - (c.loop-i.i + 1)) (is_in (bit_or c.loop-i.names k))) (λ ys. Some ((take c.loop-i.i c.loop-i.out ++ x ∷ []) ++ ys))) (sym (one_shl x 32 small))
-          ∙ ap (λ l. or_none (names_for (c.args.inputs - (c.loop-i.i + 1)) (is_in (bit_or c.loop-i.names (1 * 2 ^ x % 2 ^ 32)))) (λ ys. Some (l ++ ys))) (sym (take_more_set c.loop-i.out c.loop-i.i x (omega (arith, c.loop-i.invariant.0))))))),
+pub loop-slot-preserved : goal.loop-slot-preserved
+loop-slot-preserved c =
+    let x = c.in_ok-name.name in
+    let i = c.loop-slot.slot-index in
+    let items = c.loop-slot.slot-items in
+    let names = c.loop-slot.names in
+    let left = c.args.inputs - (i + 1) in
+    let m : c.args.inputs - i ≡ suc (c.args.inputs - (i + 1)) = omega (arith, c.loop-slot-test.true, c.loop-slot.invariant.0) in
+    let is = sym c.in_ok-name.ensures in
+    let small = free_small (is_in names) x is in (
+      length-set items i x ∙ c.loop-slot.invariant.0,
+      small-set 32 items i x c.loop-slot.invariant.1 small,
+      c.loop-slot.invariant.2
+          ∙ (ap (λ k. or_none (names_for k (is_in names)) (λ ys. Some (take i items ++ ys))) m
+          ∙ (named_more left names x (take i items) is
+          ∙ (ap (λ k. or_none (names_for left (is_in (bit_or names k))) (λ ys. Some ((take i items ++ x ∷ []) ++ ys))) (sym (one_shl x 32 small))
+          ∙ ap (λ l. or_none (names_for left (is_in (bit_or names (1 * 2 ^ x % 2 ^ 32)))) (λ ys. Some (l ++ ys))) (sym (take_more_set items i x (omega arith)))))),
     )
 
 pub returns : goal.returns
-returns c = (c.loop-i.invariant.2 ∙ named_all c.args.inputs c.loop-i.i (is_in c.loop-i.names) c.loop-i.out (omega arith), c.loop-i.invariant.1)
+returns c =
+    let items = c.loop-slot.slot-items in (
+      c.loop-slot.invariant.2
+          ∙ (named_all c.args.inputs c.loop-slot.slot-index (is_in c.loop-slot.names) items (omega (arith, c.loop-slot.invariant.0))
+          ∙ ap Some (sym (take-append-le c.args.inputs items _ (omega (arith, c.loop-slot.invariant.0))))),
+      small-append 32 items _ c.loop-slot.invariant.1 (small-drop 32 c.args.inputs (replicate 4 0) (zeros-small 4)),
+    )

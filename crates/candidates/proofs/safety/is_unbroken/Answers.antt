@@ -1,4 +1,4 @@
-use Rattle.std.proofs.Common.{◌^◌, ◌<◌, ◌≤◌, length, sym, ◌∙◌, subst, arith, below_more}
+use Rattle.std.proofs.Common.{◌≡◌, ◌^◌, ◌<◌, ◌≤◌, length, sym, ◌∙◌, subst, arith, rules, below_more}
 use Rattle.std.proofs.lemmas.Bool.{true≢false}
 use Rattle.sheet.specs.View.{sheet_of}
 use Rattle.candidates.specs.Cases.{Breaks}
@@ -13,9 +13,8 @@ loop-case-preserved c form laid bits labelled =
 
 pub returns : goal.returns
 returns c form laid bits labelled breaking =
-    let k = length c.as_slice.result.now in
-    let is = c.as_slice.ensures.value in
-    let few : k ≤ 4 = subst (λ xs. length xs ≤ 4) (sym is) c.requires.claims in
-    let end : 2 ^ k ≤ c.loop-case.case = subst (λ m. m ≤ c.loop-case.case) (shifted k few) c.loop-case-test.false in
-    let inside : breaking.claims < 2 ^ k = subst (λ xs. breaking.claims < 2 ^ length xs) (sym is) breaking.within in
+    let k = c.len.result in
+    let is : k ≡ length (sheet_of c.args.sheet.now).claims = search rules in
+    let end : 2 ^ k ≤ c.loop-case.case = subst (λ m. m ≤ c.loop-case.case) (shifted k (omega (arith, c.requires.claims))) c.loop-case-test.false in
+    let inside : breaking.claims < 2 ^ k = subst (λ m. breaking.claims < 2 ^ m) (sym is) breaking.within in
     c.loop-case.invariant form laid bits labelled breaking.claims (omega arith) (breaking.broken, breaking.possible)

@@ -9,7 +9,8 @@ use Rattle.banks.specs.Gains.{Gained}
 use Rattle.forms.specs.Candidate.{no_term, terms_over}
 use Rattle.candidates.specs.Working.{next_over}
 use Rattle.candidates.proofs.Walking.{walked_start}
-use Rattle.candidates.proofs.Listing.{added_break, placed_more, placed_break, numbered_at, numbered-length}
+use Rattle.sheet.proofs.Numbering.{numbered_at, numbered-length}
+use Rattle.candidates.proofs.Listing.{added_break, placed_more, placed_break}
 use Rattle.candidates.proofs.successor.next_vector.Goals as goal
 
 pub loop-k-init : goal.loop-k-init
