@@ -9,7 +9,7 @@ use Rattle.terms.specs.Terms.{Term, name, constant, unary, binary, ternary, occu
 use Rattle.terms.specs.Bank.{term_at}
 use Rattle.sheet.specs.System.{System}
 use Rattle.rows.specs.declared.row.RowRecord.{RowRecord}
-use Rattle.rows.specs.Records.{Sound, row_in}
+use Rattle.rows.specs.Records.{Inside, row_in}
 use Rattle.forms.specs.Rows.{Row, occurs_in_terms}
 use Rattle.forms.specs.Form.{names_among, is_named}
 use Rattle.forms.specs.Matching.{renamed_in, Fits}
@@ -91,18 +91,18 @@ pub bits_apart : (s : System) (rs : List TermRecord) (older form : RowRecord) (b
 bits_apart s rs older form bits b apart f h = apart (ap (λ k. take k older.bits) b ∙ (h.bits ∙ ap (λ k. take k form.bits) (sym b)))
 
 -- the rows of two records, and what their bits and places say of them
-module _ (s : System) (rs : List TermRecord) (n readings : ℕ) (older form : RowRecord) (r : readings ≡ length s.readings) (p : Sound s rs n 16 older) (q : Sound s rs n 16 form) where
+module _ (s : System) (rs : List TermRecord) (n readings : ℕ) (older form : RowRecord) (r : readings ≡ length s.readings) (p : Inside s n 16 older) (q : Inside s n 16 form) where
   pub vectors_same : length (take readings older.vector) ≡ length (take readings form.vector)
   vectors_same =
-      length-take-le readings older.vector (omega (arith, p.row.readings)) ∙ sym (length-take-le readings form.vector (omega (arith, q.row.readings)))
+      length-take-le readings older.vector (omega (arith, p.readings)) ∙ sym (length-take-le readings form.vector (omega (arith, q.readings)))
 
   pub older_below : (k : ℕ) → k < length (take readings older.vector) → get_or (take readings older.vector) k 0 < n
   older_below =
-      below_taken older.vector readings n (length (take readings older.vector)) (omega (arith, length-take readings older.vector)) (λ k lt. p.row.vector k (omega arith))
+      below_taken older.vector readings n (length (take readings older.vector)) (omega (arith, length-take readings older.vector)) (λ k lt. p.vector k (omega arith))
 
-  pub form_below : (k : ℕ) → k < length (take readings older.vector) → get_or (take readings form.vector) k 0 < n
+  pub form_below : (k : ℕ) → k < length (take readings form.vector) → get_or (take readings form.vector) k 0 < n
   form_below =
-      below_taken form.vector readings n (length (take readings older.vector)) (omega (arith, length-take readings older.vector)) (λ k lt. q.row.vector k (omega arith))
+      below_taken form.vector readings n (length (take readings form.vector)) (omega (arith, length-take readings form.vector)) (λ k lt. q.vector k (omega arith))
 
   pub fit_found : (bits : ℕ) → bits ≡ length s.bits → take bits older.bits ≡ take bits form.bits → (o : Option Renaming) → MatchOption o ((f : ℕ → ℕ) → RenamesEach rs (take readings older.vector) (take readings form.vector) (length (take readings older.vector)) f → ⊥) (λ found. RenamesEach rs (take readings older.vector) (take readings form.vector) (length (take readings older.vector)) (sends found) × ((x : ℕ) → sends found x < 32)) → MatchOption o ((f : ℕ → ℕ) → FitsVector f (row_in s rs older) (row_in s rs form) → ⊥) (λ found. FitsVector (sends found) (row_in s rs older) (row_in s rs form))
   fit_found bits b same None h = λ f fits. h f (each_from_vector rs f (take readings older.vector) (take readings form.vector) vectors_same (ap (λ k. map (renamed f) (map (term_at rs) (take k older.vector))) r ∙ (fits.vector ∙ ap (λ k. map (term_at rs) (take k form.vector)) (sym r))))

@@ -110,12 +110,12 @@ narrowed_pictured rs n image to i j k b lt p is =
     (λ f h e. eq-eqb k j (b.once k j (p.inside i k is) lt (sym (p.renames i k is f h) ∙ e)))
 
 -- one more after the first k
-pub narrowed_each : (rs : List TermRecord) (older newer : List ℕ) (k : ℕ) (to to' to'' : List (Option ℕ)) (b : Bool) → Narrowed to to' (RenamesEach rs older newer k) true → Narrowed to' to'' (Renames rs (get_or older k 0) (get_or newer k 0)) b → Narrowed to to'' (RenamesEach rs older newer (k + 1)) b
-narrowed_each rs older newer k to to' to'' b before here =
-    narrowed_as to to'' (λ f. RenamesEach rs older newer k f × Renames rs (get_or older k 0) (get_or newer k 0) f) (RenamesEach rs older newer (k + 1)) b
-    (narrowed_then to to' to'' (RenamesEach rs older newer k) (Renames rs (get_or older k 0) (get_or newer k 0)) b before here)
-    (λ f w m lt. ⊎_elim (λ old. w.0 m old) (λ new. (let e : k ≡ m = omega arith in subst (λ l. Renames rs (get_or older l 0) (get_or newer l 0) f) e w.1)) (cases_lt m k))
-    (λ f w. (λ m lt. w m (omega arith), w k (omega arith)))
+pub narrowed_each : (rs : List TermRecord) (older newer : List ℕ) (k : ℕ) (to to' to'' : List (Option ℕ)) (b : Bool) (i j : ℕ) → i ≡ get_or older k 0 → j ≡ get_or newer k 0 → Narrowed to to' (RenamesEach rs older newer k) true → Narrowed to' to'' (Renames rs i j) b → Narrowed to to'' (RenamesEach rs older newer (k + 1)) b
+narrowed_each rs older newer k to to' to'' b i j is js before here =
+    narrowed_as to to'' (λ f. RenamesEach rs older newer k f × Renames rs i j f) (RenamesEach rs older newer (k + 1)) b
+    (narrowed_then to to' to'' (RenamesEach rs older newer k) (Renames rs i j) b before here)
+    (λ f w m lt. ⊎_elim (λ old. w.0 m old) (λ new. (let e : k ≡ m = omega arith in subst (λ l. Renames rs (get_or older l 0) (get_or newer l 0) f) e (subst (λ q. Renames rs (get_or older k 0) q f) js (subst (λ p. Renames rs p j f) is w.1)))) (cases_lt m k))
+    (λ f w. (λ m lt. w m (omega arith), subst (λ q. Renames rs i q f) (sym js) (subst (λ p. Renames rs p (get_or newer k 0) f) (sym is) (w k (omega arith)))))
 
 -- a test that fails early fails
 pub narrowed_early : (rs : List TermRecord) (older newer : List ℕ) (k n : ℕ) (to to' : List (Option ℕ)) → k ≤ n → Narrowed to to' (RenamesEach rs older newer k) false → Narrowed to to' (RenamesEach rs older newer n) false

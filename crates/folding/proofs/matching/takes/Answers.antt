@@ -30,7 +30,7 @@ returns-then-entailed c =
     let older = row_in s rs c.args.older.now in
     let form = row_in s rs c.args.form.now in
     let sound = c.are_comparable.ensures.0 c.if-not-are_comparable.false in
-    let weighed = c.in-Ok.ensures in
+    let weighed = c.in_ok-entailed.ensures in
     let fits = c.in-Some.ensures in
     let found = takes_found rs n older form sound.closed c.in-Some.renaming fits (weighed.answer.1.0 c.if-entailed.true) in
     record {
@@ -48,7 +48,7 @@ returns-else-entailed c =
     let older = row_in s rs c.args.older.now in
     let form = row_in s rs c.args.form.now in
     let sound = c.are_comparable.ensures.0 c.if-not-are_comparable.false in
-    let weighed = c.in-Ok.ensures in
+    let weighed = c.in_ok-entailed.ensures in
     let fits = c.in-Some.ensures in
     record {
       answer = (sound, room_found rs n older form sound.closed c.in-Some.renaming fits weighed.answer.0, takes_not rs n older form sound.closed c.in-Some.renaming fits (λ all. true≢false (sym (weighed.answer.1.1 all) ∙ c.if-entailed.false)));

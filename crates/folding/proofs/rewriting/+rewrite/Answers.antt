@@ -11,7 +11,7 @@ use Rattle.folding.proofs.rewriting.+rewrite.Goals as goal
 
 pub returns-in-Some : goal.returns-in-Some
 returns-in-Some t c =
-    let k = c.requires.known c.args.place c.in-Some.became (sym c.at_or.ensures ∙ c.in-Some.is) in
+    let k = c.requires.known c.args.place c.in-Some.became (sym c.recall.ensures ∙ c.in-Some.is) in
     (record { gained = gained_held c.args.bank.now c.args.count.now.terms _ c.requires.bank (c.in-Some.became, k.1, k.2); inside = k.1; is = k.2 }, c.requires.known)
 
 pub returns-in-Some-stop : goal.returns-in-Some-stop
