@@ -1,25 +1,13 @@
--- The first term that is too high, and the way down from it.
-use Rattle.std.proofs.Common.{◌≡◌, ℕ, suc, ◌+◌, ◌-◌, ◌<◌, ◌≤◌, max, false, cond, eqb, ltb, List, ◌∷◌, map, length, get_or, drop, Some, sym, refl, ap, ◌∙◌, subst, arith}
-use Rattle.std.proofs.lemmas.List.{drop_more}
-use Rattle.std.proofs.lemmas.Bool.{cond-true, cond-false, eq-eqb, ne_eqb, lt-ltb}
-use Rattle.std.proofs.lemmas.Bool.Decides.{nat_tests}
+-- The way down from a term that is too high.
+use Rattle.std.proofs.Common.{◌≡◌, ℕ, suc, ◌-◌, ◌<◌, max, cond, eqb, List, get_or, sym, refl, ap, ◌∙◌, subst, arith}
+use Rattle.std.proofs.lemmas.Bool.{cond-true, cond-false, eq-eqb, ne_eqb}
 use Rattle.terms.specs.declared.Node.{Node}
 use Rattle.terms.specs.declared.Node.TheVariants.{Unary, Binary, Ternary}
 use Rattle.terms.specs.declared.TermRecord.{TermRecord}
 use Rattle.terms.specs.Terms.{Term, unary, binary, ternary, height}
 use Rattle.terms.specs.Bank.{Bank, Fit, no_record, node_at, term_at, term_of}
 use Rattle.terms.proofs.Standing.{term_at-ordered}
-use Rattle.forms.specs.Form.{first_higher, lowest}
-
-module _ (h : ℕ) (f : ℕ → Term) (places : List ℕ) where
-  pub first_here : (k : ℕ) → k < length places → h < height (f (get_or places k 0)) → first_higher h (map f (drop k places)) ≡ Some (f (get_or places k 0))
-  first_here k lt high =
-      ap (λ l. first_higher h (map f l)) (drop_more places k 0 lt) ∙ cond-true (ltb h (height (f (get_or places k 0)))) (Some (f (get_or places k 0))) (first_higher h (map f (drop (k + 1) places))) (lt-ltb h (height (f (get_or places k 0))) high)
-
-  pub first_on : (k : ℕ) → k < length places → height (f (get_or places k 0)) ≤ h → first_higher h (map f (drop k places)) ≡ first_higher h (map f (drop (k + 1) places))
-  first_on k lt low =
-      let no' : ltb h (height (f (get_or places k 0))) ≡ false = grind (arith, nat_tests) in
-      ap (λ l. first_higher h (map f l)) (drop_more places k 0 lt) ∙ cond-false (ltb h (height (f (get_or places k 0)))) (Some (f (get_or places k 0))) (first_higher h (map f (drop (k + 1) places))) no'
+use Rattle.forms.specs.Form.{lowest}
 
 down_unary : (f : ℕ) (a : Term) → 1 < suc (height a) → lowest (unary f a) ≡ lowest a
 down_unary f a high = cond-false (eqb (height a) 0) (unary f a) (lowest a) (ne_eqb (height a) 0 (omega arith))

@@ -1,17 +1,17 @@
 -- What dropping conditions one after the other keeps, and names as bits.
-use Rattle.std.proofs.Common.{◌≡◌, ℕ, zero, suc, ◌+◌, ◌/◌, ◌%◌, ◌^◌, ◌<◌, ◌≤◌, Bool, true, false, cond, not, ◌&&◌, ◌||◌, eqb, ltb, leb, List, [], ◌∷◌, ◌++◌, map, length, get_or, take, set, filter, Decides, sym, refl, ap, ◌∙◌, subst, ⊎_elim, arith, bit_or}
+use Rattle.std.proofs.Common.{◌≡◌, ℕ, zero, suc, ◌+◌, ◌/◌, ◌%◌, ◌^◌, ◌<◌, ◌≤◌, Bool, true, false, cond, not, ◌&&◌, ◌||◌, eqb, ltb, List, [], ◌∷◌, ◌++◌, map, length, get_or, take, set, filter, Decides, sym, refl, ap, ◌∙◌, subst, ⊎_elim, arith, bit_or}
 use Rattle.std.specs.List.{list_any}
 use Rattle.std.proofs.lemmas.Nat.{shr-shr}
 use Rattle.std.proofs.lemmas.List.Elements.{filter-append}
-use Rattle.std.proofs.lemmas.List.{append-nil, length_push, length-map, length-set, length-take-le, get_or-take, get_or-set_same, get_or-set_other, take_all, take-append-le, take_more, take_more_set, map_push, map_more}
+use Rattle.std.proofs.lemmas.List.{append-nil, length_push, length-map, length-set, length-take-le, get_or-set_same, get_or-set_other, take_all, take-append-le, take_more_set, map_push, map_more}
 use Rattle.std.proofs.lemmas.Bool.{eqb-false, cases_lt, cases_eq, cases_Bool, and_parts, and_from, and_left, and_right, or_cases, cond-true, cond-false, lt-ltb, le-ltb, eq-eqb, eqb-true, or_left, or_right, not_from_true, not_from_false, false≢true}
 use Rattle.std.proofs.lemmas.Bool.Decides.{same_from_decides, Decides-eqb}
 use Rattle.terms.specs.declared.Condition.{Condition}
 use Rattle.terms.specs.declared.Sign.{Sign}
 use Rattle.terms.specs.declared.Sign.TheVariants.{Equal, Different}
 use Rattle.terms.specs.declared.TermRecord.{TermRecord}
-use Rattle.terms.specs.Terms.{Term, name, constant, unary, binary, ternary, height, occurs, name_set, same, Literal}
-use Rattle.terms.specs.Bank.{Bank, no_record, term_at, literal_of}
+use Rattle.terms.specs.Terms.{Term, name, constant, unary, binary, ternary, occurs, name_set, same, Literal}
+use Rattle.terms.specs.Bank.{Bank, term_at, literal_of}
 use Rattle.terms.proofs.NameSets.{flag, bit_or-bit, bit_occurs}
 use Rattle.terms.proofs.Same.{same_self, same_true}
 use Rattle.closure.specs.Labels.{no_condition}

@@ -26,9 +26,6 @@ pub narrowed_tested : (to : List (Option ℕ)) (Passes : (ℕ → ℕ) → Type 
 narrowed_tested to Passes true yes' only = λ f. (λ h. (h, yes' refl f h), λ h p. h)
 narrowed_tested to Passes false yes' only = λ f h p. true≢false (sym (only f h p))
 
-pub narrowed_known : (to : List (Option ℕ)) (x y old : ℕ) → get_or to x None ≡ Some old → Narrowed to to (λ f. f x ≡ y) (eqb old y)
-narrowed_known to x y old is = narrowed_tested to (λ f. f x ≡ y) (eqb old y) (λ e f h. h x old is ∙ eqb-true old y e) (λ f h p. eq-eqb old y (sym (h x old is) ∙ p))
-
 pub narrowed_bound : (to : List (Option ℕ)) (x y : ℕ) → x < length to → get_or to x None ≡ None → Narrowed to (set to x (Some y)) (λ f. f x ≡ y) true
 narrowed_bound to x y lt free f = (
   λ h. (λ k v e. ⊎_elim (λ same. absurd (none_some (get_or to k None) v (ap (λ m. get_or to m None) same ∙ free) e)) (λ other. h k v (get_or-set_other to x k (Some y) None other ∙ e)) (cases_eq k x), h x y (get_or-set_same to x (Some y) None lt)),
@@ -36,12 +33,6 @@ narrowed_bound to x y lt free f = (
       (λ same. ap f same ∙ (p ∙ some_same y v (sym (get_or-set_same to x (Some y) None lt) ∙ (ap (λ m. get_or (set to x (Some y)) m None) (sym same) ∙ e))))
       (λ other. h k v (sym (get_or-set_other to x k (Some y) None other) ∙ e)) (cases_eq k x),
 )
-
-pub named_bound : (to : List (Option ℕ)) (x y : ℕ) → x < length to → y < 32 → ((k v : ℕ) → get_or to k None ≡ Some v → v < 32) → (k v : ℕ) → get_or (set to x (Some y)) k None ≡ Some v → v < 32
-named_bound to x y lt small named k v e =
-    ⊎_elim
-    (λ same. (let z = some_same y v (sym (get_or-set_same to x (Some y) None lt) ∙ (ap (λ m. get_or (set to x (Some y)) m None) (sym same) ∙ e)) in omega arith))
-    (λ other. named k v (sym (get_or-set_other to x k (Some y) None other) ∙ e)) (cases_eq k x)
 
 pub stronger_bound : (to : List (Option ℕ)) (x y : ℕ) → x < length to → get_or to x None ≡ None → Stronger to (set to x (Some y))
 stronger_bound to x y lt free f h = ((narrowed_bound to x y lt free f).0 h).0

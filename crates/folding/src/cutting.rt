@@ -16,7 +16,7 @@ use crate::view::View;
 use fault::TableFault;
 use rows::{RowRecord, lowest_free, names_of_row, readings_of};
 use sheet::Sheet;
-use terms::{Count, Node, TermRecord};
+use terms::{Count, MOST_TERMS, Node, TermRecord};
 
 impl View<'_> {
     /// The first of the terms at these places that is higher than `bound`.
@@ -93,7 +93,7 @@ fn rewrite_row(
 {
     let mut vector = row.vector;
     let mut conditions = row.conditions;
-    let mut known: [Option<u16>; 512] = [None; 512];
+    let mut known = [None; MOST_TERMS];
     let readings = readings_of(sheet);
     rewrite_places(bank, count, change, &mut vector[..readings], &mut known)?;
     let used = row.used as usize;

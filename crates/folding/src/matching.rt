@@ -51,6 +51,7 @@ impl View<'_> {
         requires goals { Between self.now.count.terms goals.now (length goals.now) }
         ensures { Decides result (AllByRecursion (Entails (literals self.now.records.now given.now)) (literals self.now.records.now goals.now)) }
     {
+        // A loop, since each question writes the labels.
         for goal in goals {
             if !self.is_entailed(given, *goal, labels) {
                 return false;
@@ -173,9 +174,5 @@ pub fn takes(
         return Ok(None);
     };
     let entailed = weigh_conditions(bank, count, &renaming, older, form, labels)?;
-    if entailed {
-        Ok(Some(renaming))
-    } else {
-        Ok(None)
-    }
+    Ok(entailed.then_some(renaming))
 }

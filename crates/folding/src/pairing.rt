@@ -37,6 +37,7 @@ fn renaming_of(bound: &[Option<u8>; 32]) -> Renaming
     }
 }
 
+// What is paired stays outside the view: a struct of both would have to promise that the view doesn't change.
 impl View<'_> {
     /// Pairs the terms at two places, and with them their arguments, each older place once.
     #[cycle(pair_all_pair_nodes_pair_places)]

@@ -7,7 +7,6 @@ ghost use Rattle.rows.specs.Records.{Between};
 
 use crate::change::Change;
 use fault::TableFault;
-use rows::at_or;
 use sheet::{recall, remember};
 use terms::{Condition, Count, Node, TermRecord, intern};
 
@@ -15,7 +14,7 @@ fn renamed_name(to: &[u8], node: Node) -> Option<Node>
     ensures { result ≡ renamed_name to.now node }
 {
     match node {
-        Node::Name(x) => Some(Node::Name(at_or(to, x as usize, 0))),
+        Node::Name(x) => Some(Node::Name(to.get(x as usize).copied().unwrap_or(0))),
         _ => None,
     }
 }
@@ -25,13 +24,7 @@ fn stop(change: &Change, place: u16, node: Node) -> Option<Node>
     ensures { result ≡ stopped change.now place node }
 {
     match change {
-        Change::Replace(old, name) => {
-            if place == *old {
-                Some(Node::Name(*name))
-            } else {
-                None
-            }
-        }
+        Change::Replace(old, name) => (place == *old).then_some(Node::Name(*name)),
         Change::Rename(to) => renamed_name(to, node),
     }
 }
@@ -97,8 +90,7 @@ pub(crate) fn rewrite(
         return settle(bank, count, place, new, known);
     }
     match node {
-        Node::Name(_) => settle(bank, count, place, node, known),
-        Node::Constant(_) => settle(bank, count, place, node, known),
+        Node::Name(_) | Node::Constant(_) => settle(bank, count, place, node, known),
         Node::Unary(f, a) => {
             let a = rewrite(bank, count, change, a, known)?;
             settle(bank, count, place, Node::Unary(f, a), known)

@@ -1,4 +1,4 @@
-use Rattle.std.proofs.Common.{take, subst, arith, ◌∙◌}
+use Rattle.std.proofs.Common.{take, subst}
 use Rattle.std.proofs.lemmas.Result.{err_from_is_err_and}
 use Rattle.sheet.specs.View.{sheet_of}
 use Rattle.terms.proofs.Filing.{extends_none}

@@ -2,7 +2,7 @@ use Rattle.std.proofs.Common.{◌≡◌, Bool, true, false, not, List, take, Dec
 use Rattle.std.proofs.lemmas.Slice.Eq.{slice_eq-Decides}
 use Rattle.std.proofs.lemmas.Bool.{true≢false}
 use Rattle.sheet.specs.View.{sheet_of}
-use Rattle.folding.proofs.Forcing.{vectors_same, older_below, form_below, bits_apart, fit_found}
+use Rattle.folding.proofs.Forcing.{bits_apart, fit_found}
 use Rattle.folding.proofs.view.View.fit_vector.Goals as goal
 use Rattle.std.specs.Cmp.{booleans_Decides}
 
@@ -20,21 +20,6 @@ returns-then-ne c =
     let bits = c.bits_of-bits.result in
     bits_apart (sheet_of c.args.sheet.now) c.args.self.now.records.now older form bits c.bits_of-bits.ensures
     (different (take bits older.bits) (take bits form.bits) _ c.ne.result (slice_eq-Decides booleans_Decides (take bits older.bits) (take bits form.bits) _ refl) c.ne.ensures c.if-ne.true)
-
-pub match_terms-requires : goal.match_terms-requires
-match_terms-requires c =
-    let s = sheet_of c.args.sheet.now in
-    let rs = c.args.self.now.records.now in
-    let n = c.args.self.now.count.terms in
-    let older = c.args.older.now in
-    let form = c.args.form.now in
-    let readings = c.readings_of-readings.result in
-    let r = c.readings_of-readings.ensures in
-    record {
-      same = vectors_same s rs n readings older form r c.requires.older c.requires.form;
-      older = older_below s rs n readings older form r c.requires.older c.requires.form;
-      newer = form_below s rs n readings older form r c.requires.older c.requires.form;
-    }
 
 pub returns : goal.returns
 returns c =

@@ -1,9 +1,7 @@
-use Rattle.std.proofs.Common.{List, map, take, length, sym, subst, ◌≤◌, arith, rules}
-use Rattle.terms.specs.declared.Condition.{Condition}
-use Rattle.terms.specs.Terms.{Term}
+use Rattle.std.proofs.Common.{map, take, sym, subst, arith, rules}
 use Rattle.terms.specs.Bank.{term_at}
 use Rattle.sheet.specs.View.{sheet_of}
-use Rattle.rows.specs.Records.{row_in, Between}
+use Rattle.rows.specs.Records.{row_in}
 use Rattle.folding.specs.Dropping.{NamesIn}
 use Rattle.folding.proofs.Entailed.{between_taken}
 use Rattle.folding.proofs.Dropping.{among_is, trimming_keeps, trimming_repeats, trimming_unnamed, trimming_high, trimming_full}
