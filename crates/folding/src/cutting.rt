@@ -1,8 +1,8 @@
 //! Cuts: while a vector term is too high, a term of height 1 in it becomes a name.
-ghost use Rattle.std.specs.Prelude.{◌≡◌, ℕ, suc, ◌<◌, ◌≤◌, map, length, take, Some, None, MatchOption, MatchResult, slice_index};
+ghost use Rattle.std.specs.Prelude.{◌≡◌, ℕ, suc, ◌<◌, map, length, Some, None, MatchOption, MatchResult, slice_index};
 ghost use Rattle.sheet.specs.View.{sheet_of};
 ghost use Rattle.terms.specs.Terms.{height};
-ghost use Rattle.terms.specs.Bank.{Bank, term_at};
+ghost use Rattle.terms.specs.Bank.{term_at};
 ghost use Rattle.forms.specs.Form.{first_higher, lowest};
 ghost use Rattle.forms.specs.Counted.{terms_in};
 ghost use Rattle.rows.specs.Records.{row_in, Sound};
