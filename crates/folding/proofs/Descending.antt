@@ -1,34 +1,13 @@
--- The first term that is too high, and the way down from it.
-use Rattle.std.proofs.Common.{◌≡◌, ℕ, suc, ◌+◌, ◌-◌, ◌<◌, ◌≤◌, max, false, cond, eqb, ltb, List, ◌∷◌, map, length, get_or, take, drop, Some, None, sym, refl, ap, ◌∙◌, subst, arith, drop_of_length-le}
-use Rattle.std.proofs.lemmas.List.{drop_more, get_or-take, length-take-le}
-use Rattle.std.proofs.lemmas.Bool.{cond-true, cond-false, eq-eqb, ne_eqb, lt-ltb}
-use Rattle.std.proofs.lemmas.Bool.Decides.{nat_tests}
+-- The way down from a term that is too high.
+use Rattle.std.proofs.Common.{◌≡◌, ℕ, suc, ◌-◌, ◌<◌, max, cond, eqb, List, get_or, sym, refl, ap, ◌∙◌, subst, arith}
+use Rattle.std.proofs.lemmas.Bool.{cond-true, cond-false, eq-eqb, ne_eqb}
 use Rattle.terms.specs.declared.Node.{Node}
 use Rattle.terms.specs.declared.Node.TheVariants.{Unary, Binary, Ternary}
 use Rattle.terms.specs.declared.TermRecord.{TermRecord}
 use Rattle.terms.specs.Terms.{Term, unary, binary, ternary, height}
 use Rattle.terms.specs.Bank.{Bank, Fit, no_record, node_at, term_at, term_of}
 use Rattle.terms.proofs.Standing.{term_at-ordered}
-use Rattle.forms.specs.Form.{first_higher, lowest}
-
-module _ (h : ℕ) (f : ℕ → Term) (places : List ℕ) (readings : ℕ) (room : readings ≤ length places) where
-  long : length (take readings places) ≡ readings
-  long = length-take-le readings places room
-
-  split : (k : ℕ) → k < readings → drop k (take readings places) ≡ get_or places k 0 ∷ drop (k + 1) (take readings places)
-  split k lt = drop_more (take readings places) k 0 (omega (arith, long, lt)) ∙ ap (λ a. a ∷ drop (k + 1) (take readings places)) (get_or-take readings places k 0 lt)
-
-  pub first_here : (k : ℕ) → k < readings → h < height (f (get_or places k 0)) → first_higher h (map f (drop k (take readings places))) ≡ Some (f (get_or places k 0))
-  first_here k lt high =
-      ap (λ l. first_higher h (map f l)) (split k lt) ∙ cond-true (ltb h (height (f (get_or places k 0)))) (Some (f (get_or places k 0))) (first_higher h (map f (drop (k + 1) (take readings places)))) (lt-ltb h (height (f (get_or places k 0))) high)
-
-  pub first_on : (k : ℕ) → k < readings → height (f (get_or places k 0)) ≤ h → first_higher h (map f (drop k (take readings places))) ≡ first_higher h (map f (drop (k + 1) (take readings places)))
-  first_on k lt low =
-      let no' : ltb h (height (f (get_or places k 0))) ≡ false = grind (arith, nat_tests) in
-      ap (λ l. first_higher h (map f l)) (split k lt) ∙ cond-false (ltb h (height (f (get_or places k 0)))) (Some (f (get_or places k 0))) (first_higher h (map f (drop (k + 1) (take readings places)))) no'
-
-  pub first_none : (k : ℕ) → readings ≤ k → first_higher h (map f (drop k (take readings places))) ≡ None
-  first_none k le = ap (λ l. first_higher h (map f l)) (drop_of_length-le (take readings places) (omega (arith, long, le)))
+use Rattle.forms.specs.Form.{lowest}
 
 down_unary : (f : ℕ) (a : Term) → 1 < suc (height a) → lowest (unary f a) ≡ lowest a
 down_unary f a high = cond-false (eqb (height a) 0) (unary f a) (lowest a) (ne_eqb (height a) 0 (omega arith))

@@ -1,41 +1,34 @@
 -- What dropping conditions one after the other keeps, and names as bits.
-use Rattle.std.proofs.Common.{◌≡◌, ℕ, zero, suc, ◌+◌, ◌/◌, ◌%◌, ◌^◌, ◌<◌, ◌≤◌, Bool, true, false, cond, not, ◌&&◌, ◌||◌, eqb, ltb, leb, List, [], ◌∷◌, ◌++◌, map, length, get_or, take, set, filter, sym, refl, ap, ◌∙◌, subst, ⊎_elim, arith, bit_or}
+use Rattle.std.proofs.Common.{◌≡◌, ℕ, zero, suc, ◌+◌, ◌/◌, ◌%◌, ◌^◌, ◌<◌, ◌≤◌, Bool, true, false, cond, not, ◌&&◌, ◌||◌, eqb, ltb, List, [], ◌∷◌, ◌++◌, map, length, get_or, take, set, filter, Decides, sym, refl, ap, ◌∙◌, subst, ⊎_elim, arith, bit_or}
+use Rattle.std.specs.List.{list_any}
 use Rattle.std.proofs.lemmas.Nat.{shr-shr}
 use Rattle.std.proofs.lemmas.List.Elements.{filter-append}
-use Rattle.std.proofs.lemmas.List.{append-nil, length_push, length-map, length-set, length-take-le, get_or-take, get_or-set_same, get_or-set_other, take_all, take-append-le, take_more, take_more_set, map_push, map_more}
+use Rattle.std.proofs.lemmas.List.{append-nil, length_push, length-map, length-set, length-take-le, get_or-set_same, get_or-set_other, take_all, take-append-le, take_more_set, map_push, map_more}
 use Rattle.std.proofs.lemmas.Bool.{eqb-false, cases_lt, cases_eq, cases_Bool, and_parts, and_from, and_left, and_right, or_cases, cond-true, cond-false, lt-ltb, le-ltb, eq-eqb, eqb-true, or_left, or_right, not_from_true, not_from_false, false≢true}
 use Rattle.std.proofs.lemmas.Bool.Decides.{same_from_decides, Decides-eqb}
 use Rattle.terms.specs.declared.Condition.{Condition}
+use Rattle.terms.specs.declared.Sign.{Sign}
+use Rattle.terms.specs.declared.Sign.TheVariants.{Equal, Different}
 use Rattle.terms.specs.declared.TermRecord.{TermRecord}
-use Rattle.terms.specs.Terms.{Term, name, constant, unary, binary, ternary, height, occurs, name_set, same, Literal}
-use Rattle.terms.specs.Bank.{Bank, no_record, term_at, literal_of}
+use Rattle.terms.specs.Terms.{Term, name, constant, unary, binary, ternary, occurs, name_set, same, Literal}
+use Rattle.terms.specs.Bank.{Bank, term_at, literal_of}
 use Rattle.terms.proofs.NameSets.{flag, bit_or-bit, bit_occurs}
 use Rattle.terms.proofs.Same.{same_self, same_true}
 use Rattle.closure.specs.Labels.{no_condition}
 use Rattle.forms.specs.Rows.{occurs_in_terms}
-use Rattle.forms.specs.Form.{is_low, names_among, is_named, same_literal, is_among, without_repeats}
+use Rattle.forms.specs.Form.{is_low, names_among, is_named, same_sign, same_literal, is_among, without_repeats}
 use Rattle.rows.specs.Records.{Between}
-use Rattle.folding.specs.Dropping.{kept_conditions, NamesIn, same_condition, is_repeated}
+use Rattle.folding.proofs.Entailed.{between_taken}
+use Rattle.folding.specs.Dropping.{kept_conditions, NamesIn}
 
 or_false : (a : Bool) → a ≡ (a || false)
 or_false true = refl
 or_false false = refl
 
-or_assoc : (a b c : Bool) → (a || (b || c)) ≡ ((a || b) || c)
-or_assoc true b c = refl
-or_assoc false b c = refl
-
 or_rolled : (a b c : Bool) → ((a || b) || c) ≡ (b || (a || c))
 or_rolled true true c = refl
 or_rolled true false c = refl
 or_rolled false b c = refl
-
-and_crossed : (a b c d : Bool) → ((a && b) && (c && d)) ≡ ((a && c) && (b && d))
-and_crossed true true true d = refl
-and_crossed true true false d = refl
-and_crossed true false true d = refl
-and_crossed true false false d = refl
-and_crossed false b c d = refl
 
 -- numbers with the same bits are the same
 bits_below : (m a b : ℕ) → a ≤ m → b ≤ m → ((x : ℕ) → a / 2 ^ x % 2 ≡ b / 2 ^ x % 2) → a ≡ b
@@ -92,41 +85,36 @@ pub names_in_bits : (v : ℕ) (b : Bool) → eqb (v % 2) 1 ≡ b → v % 2 ≡ f
 names_in_bits v true is = eqb-true (v % 2) 1 is
 names_in_bits v false is = let no' = eqb-false (v % 2) 1 is in omega arith
 
+signs_same : (a b : Sign) → same_sign a b ≡ true → a ≡ b
+signs_same Equal Equal e = refl
+signs_same Equal Different e = absurd (false≢true e)
+signs_same Different Equal e = absurd (false≢true e)
+signs_same Different Different e = refl
+
+sign_self : (a : Sign) → same_sign a a ≡ true
+sign_self Equal = refl
+sign_self Different = refl
+
 module _ (rs : List TermRecord) (n : ℕ) (bank : Bank rs n) where
-  pub is_low_and_named : (names h : ℕ) (vector : List Term) (c : Condition) → c.left < n → c.right < n → NamesIn names vector
-      → ((leb (get_or rs c.left no_record).height h && eqb (bit_or (get_or rs c.left no_record).names names) names) && (leb (get_or rs c.right no_record).height h && eqb (bit_or (get_or rs c.right no_record).names names) names))
-      ≡ (is_low h (literal_of rs c) && is_named vector (literal_of rs c))
-  is_low_and_named names h vector c p q in' =
-      rw (bank.heights c.left p, bank.heights c.right q, bank.names c.left p, bank.names c.right q, names_within names vector (term_at rs c.left) in', names_within names vector (term_at rs c.right) in')
-      (and_crossed (leb (height (term_at rs c.left)) h) (names_among (λ x. occurs_in_terms x vector) (term_at rs c.left)) (leb (height (term_at rs c.right)) h) (names_among (λ x. occurs_in_terms x vector) (term_at rs c.right)))
-
-  same_place : (a b : ℕ) → a < n → b < n → same (term_at rs a) (term_at rs b) ≡ eqb a b
-  same_place a b p q =
-      same_from_decides (same (term_at rs a) (term_at rs b)) (eqb a b) (λ e. bank.once a b p q (same_true (term_at rs a) (term_at rs b) e), λ e. ap (same (term_at rs a)) (sym (ap (term_at rs) e)) ∙ same_self (term_at rs a)) (Decides-eqb a b)
-
-  literals_equal : (c d : Condition) → c.left < n → c.right < n → d.left < n → d.right < n → same_literal (literal_of rs c) (literal_of rs d) ≡ same_condition c d
-  literals_equal c d p q u v =
-      rw (same_place c.left d.left p u, same_place c.right d.right q v) refl
+  literals_equal : (c d : Condition) → c.left < n → c.right < n → d.left < n → d.right < n → Decides (same_literal (literal_of rs c) (literal_of rs d)) (d ≡ c)
+  literals_equal c d p q u v = (
+    λ e. (let w = and_parts (same (term_at rs c.left) (term_at rs d.left)) _ e in
+        let z = and_parts (same (term_at rs c.right) (term_at rs d.right)) (same_sign c.sign d.sign) w.1 in
+        let l : d.left ≡ c.left = sym (bank.once c.left d.left p u (same_true (term_at rs c.left) (term_at rs d.left) w.0)) in
+        let r : d.right ≡ c.right = sym (bank.once c.right d.right q v (same_true (term_at rs c.right) (term_at rs d.right) z.0)) in
+        λ i. record { left = l i; right = r i; sign = sym (signs_same c.sign d.sign z.1) i }),
+    λ e. subst (λ (x : Condition). same_literal (literal_of rs c) (literal_of rs x) ≡ true) (sym e)
+        (and_from (same (term_at rs c.left) (term_at rs c.left)) _ (same_self (term_at rs c.left)) (and_from (same (term_at rs c.right) (term_at rs c.right)) (same_sign c.sign c.sign) (same_self (term_at rs c.right)) (sign_self c.sign))),
+  )
 
   -- in a bank, a literal is repeated exactly where its places are
-  pub among_places : (ds : List Condition) (c : Condition) → c.left < n → c.right < n → Between n ds (length ds) → is_among (map (literal_of rs) ds) (literal_of rs c) ≡ is_repeated ds c
-  among_places [] c p q b = refl
-  among_places (d ∷ ds) c p q b =
-      rw (literals_equal c d p q (b.lefts 0 (omega arith)) (b.rights 0 (omega arith)), among_places ds c p q (record { lefts = λ k lt. b.lefts (suc k) (omega arith); rights = λ k lt. b.rights (suc k) (omega arith) })) refl
-
--- a condition more is looked at
-pub repeated_push : (ds : List Condition) (d c : Condition) → is_repeated (ds ++ d ∷ []) c ≡ (is_repeated ds c || same_condition c d)
-repeated_push [] d c = sym (or_false (same_condition c d))
-repeated_push (e ∷ ds) d c = ap (λ b. same_condition c e || b) (repeated_push ds d c) ∙ or_assoc (same_condition c e) (is_repeated ds c) (same_condition c d)
-
-pub repeated_more : (conds : List Condition) (k : ℕ) (c : Condition) → k < length conds → is_repeated (take (k + 1) conds) c ≡ (is_repeated (take k conds) c || same_condition c (get_or conds k no_condition))
-repeated_more conds k c lt = ap (λ ds. is_repeated ds c) (take_more conds k no_condition lt) ∙ repeated_push (take k conds) (get_or conds k no_condition) c
-
-pub repeated_at : (conds : List Condition) (used k : ℕ) (c : Condition) → k < used → used ≤ length conds → same_condition c (get_or conds k no_condition) ≡ true → is_repeated (take used conds) c ≡ true
-repeated_at [] used k c lt le is = absurd (omega arith)
-repeated_at (d ∷ conds) zero k c lt le is = absurd (omega arith)
-repeated_at (d ∷ conds) (suc used) zero c lt le is = or_left (same_condition c d) (is_repeated (take used conds) c) is
-repeated_at (d ∷ conds) (suc used) (suc k) c lt le is = or_right (same_condition c d) (is_repeated (take used conds) c) (repeated_at conds used k c (omega arith) (omega arith) is)
+  pub among_places : (ds : List Condition) (c : Condition) → c.left < n → c.right < n → Between n ds (length ds) → (test : Condition → Bool) → ((d : Condition) → Decides (test d) (d ≡ c)) → is_among (map (literal_of rs) ds) (literal_of rs c) ≡ list_any test ds
+  among_places [] c p q b test decides = refl
+  among_places (d ∷ ds) c p q b test decides =
+      rw (
+        same_from_decides (same_literal (literal_of rs c) (literal_of rs d)) (test d) (literals_equal c d p q (b.lefts 0 (omega arith)) (b.rights 0 (omega arith))) (decides d),
+        among_places ds c p q (record { lefts = λ k lt. b.lefts (suc k) (omega arith); rights = λ k lt. b.rights (suc k) (omega arith) }) test decides,
+      ) refl
 
 without_push : (seen us : List Literal) (c : Literal) → without_repeats seen (us ++ c ∷ []) ≡ without_repeats seen us ++ cond (is_among seen c || is_among (without_repeats seen us) c) [] (c ∷ [])
 without_push seen [] c = ap (λ b. cond b [] (c ∷ [])) (or_false (is_among seen c))
@@ -192,106 +180,84 @@ module _ (h : ℕ) (vector : List Term) where
       ap (λ us. take 16 (without_repeats [] us)) (passing_push cs c)
       ∙ (ap (take 16) (without_more (is_low h c && is_named vector c) (passing cs) c) ∙ first_more (is_low h c && is_named vector c) (without_repeats [] (passing cs)) c)
 
-pub and_then : (l r g : Bool) → true ≡ l → (l && r) ≡ g → r ≡ g
-and_then l r g e both = ap (λ b. b && r) e ∙ both
-
-pub and_else : (l r g : Bool) → false ≡ l → (l && r) ≡ g → false ≡ g
-and_else l r g e both = ap (λ b. b && r) e ∙ both
-
--- Conditions that began as `old`: of the first i of them, those that stay are in the first `kept` places, and nothing
--- behind these was written.
-pub record Trimming (rs : List TermRecord) (n h : ℕ) (vector : List Term) (old conds : List Condition) (kept i : ℕ) : Type 0 where
-  pub are : map (literal_of rs) (take kept conds) ≡ kept_conditions h vector (map (literal_of rs) (take i old))
+-- Of the first i of the conditions `source`, those that stay are the first `kept` of the conditions made.
+pub record Trimming (rs : List TermRecord) (n h : ℕ) (vector : List Term) (source conds : List Condition) (kept i : ℕ) : Type 0 where
+  pub are : map (literal_of rs) (take kept conds) ≡ kept_conditions h vector (map (literal_of rs) (take i source))
   pub few : kept ≤ 16
   pub behind : kept ≤ i
-  pub long : length conds ≡ length old
+  pub room : length source ≤ length conds
   pub between : Between n conds kept
-  pub rest : (k : ℕ) → kept ≤ k → get_or conds k no_condition ≡ get_or old k no_condition
 
-pub trimming_none : (rs : List TermRecord) (n h : ℕ) (vector : List Term) (old : List Condition) → Trimming rs n h vector old old 0 0
-trimming_none rs n h vector old =
-    record { are = refl; few = omega arith; behind = omega arith; long = refl; between = record { lefts = λ k lt. absurd (omega arith); rights = λ k lt. absurd (omega arith) }; rest = λ k le. refl }
+pub trimming_none : (rs : List TermRecord) (n h : ℕ) (vector : List Term) (source conds : List Condition) → length source ≤ length conds → Trimming rs n h vector source conds 0 0
+trimming_none rs n h vector source conds room =
+    record { are = refl; few = omega arith; behind = omega arith; room = room; between = record { lefts = λ k lt. absurd (omega arith); rights = λ k lt. absurd (omega arith) } }
 
-between_taken : (n : ℕ) (conds : List Condition) (kept : ℕ) → kept ≤ length conds → Between n conds kept → Between n (take kept conds) (length (take kept conds))
-between_taken n conds kept le b =
-    let long : length (take kept conds) ≡ kept = length-take-le kept conds le in
-    record {
-      lefts = λ k lt. (let in' : k < kept = omega (arith, long) in subst (λ d. d.left < n) (sym (get_or-take kept conds k no_condition in')) (b.lefts k in'));
-      rights = λ k lt. (let in' : k < kept = omega (arith, long) in subst (λ d. d.right < n) (sym (get_or-take kept conds k no_condition in')) (b.rights k in'));
-    }
+module _ (rs : List TermRecord) (n h : ℕ) (vector : List Term) (source conds : List Condition) (kept i : ℕ) (t : Trimming rs n h vector source conds kept i) (lt : i < length source) (b : Between n source (length source)) where
+  abbrev one : Condition
+  one = get_or source i no_condition
 
-module _ (rs : List TermRecord) (n : ℕ) (bank : Bank rs n) (h : ℕ) (vector : List Term) (old conds : List Condition) (kept i used : ℕ) (t : Trimming rs n h vector old conds kept i) (lt : i < used) (le : used ≤ length old) (b : Between n old used) where
-  pub next_left : (get_or conds i no_condition).left < n
-  next_left = subst (λ d. d.left < n) (sym (t.rest i t.behind)) (b.lefts i lt)
+  abbrev lit : Literal
+  lit = literal_of rs one
 
-  pub next_right : (get_or conds i no_condition).right < n
-  next_right = subst (λ d. d.right < n) (sym (t.rest i t.behind)) (b.rights i lt)
-
-  -- whether the next condition stays, by places
-  abbrev next_passes : Bool
-  next_passes = is_low h (literal_of rs (get_or conds i no_condition)) && is_named vector (literal_of rs (get_or conds i no_condition))
-
-  abbrev next_repeats : Bool
-  next_repeats = is_repeated (take kept conds) (get_or conds i no_condition)
+  abbrev among : Bool
+  among = is_among (map (literal_of rs) (take kept conds)) lit
 
   abbrev stays_next : Bool
-  stays_next = ltb kept 16 && (next_passes && not next_repeats)
+  stays_next = ltb kept 16 && ((is_low h lit && is_named vector lit) && not among)
 
-  stays-at_next : stays h vector (kept_conditions h vector (map (literal_of rs) (take i old))) (literal_of rs (get_or conds i no_condition)) ≡ stays_next
+  -- what a test by places says
+  pub among_is : Bank rs n → (r : Bool) (test : Condition → Bool) → r ≡ list_any test (take kept conds) → ((d : Condition) → Decides (test d) (d ≡ one)) → among ≡ r
+  among_is bank r test is decides =
+      among_places rs n bank (take kept conds) one (b.lefts i lt) (b.rights i lt) (between_taken n n conds kept (omega arith) t.between) test decides ∙ sym is
+
+  done : List Literal
+  done = kept_conditions h vector (map (literal_of rs) (take i source))
+
+  stays-at_next : stays h vector done lit ≡ stays_next
+  unfolding done
   stays-at_next =
-      let within : kept ≤ length conds = omega (arith, t.behind, t.long) in
-      let long : length (map (literal_of rs) (take kept conds)) ≡ kept = length-map (take kept conds) (literal_of rs) ∙ length-take-le kept conds within in
-      let new = among_places rs n bank (take kept conds) (get_or conds i no_condition) next_left next_right (between_taken n conds kept within t.between) in
-      ap (λ done. stays h vector done (literal_of rs (get_or conds i no_condition))) (sym t.are) ∙ rw (long, new) refl
+      let long : length (map (literal_of rs) (take kept conds)) ≡ kept = length-map (take kept conds) (literal_of rs) ∙ length-take-le kept conds (omega (arith, t.behind, t.room)) in
+      ap (λ d. stays h vector d lit) (sym t.are) ∙ ap (λ k. ltb k 16 && ((is_low h lit && is_named vector lit) && not among)) long
 
-  next : kept_conditions h vector (map (literal_of rs) (take (i + 1) old)) ≡ cond stays_next (kept_conditions h vector (map (literal_of rs) (take i old)) ++ literal_of rs (get_or conds i no_condition) ∷ []) (kept_conditions h vector (map (literal_of rs) (take i old)))
+  next : kept_conditions h vector (map (literal_of rs) (take (i + 1) source)) ≡ cond stays_next (done ++ lit ∷ []) done
+  unfolding done
   next =
-      let one : map (literal_of rs) (take (i + 1) old) ≡ map (literal_of rs) (take i old) ++ literal_of rs (get_or conds i no_condition) ∷ [] =
-      map_more (literal_of rs) old i no_condition (omega arith) ∙ ap (λ d. map (literal_of rs) (take i old) ++ literal_of rs d ∷ []) (sym (t.rest i t.behind)) in
-      ap (kept_conditions h vector) one
-      ∙ (kept_push h vector (map (literal_of rs) (take i old)) (literal_of rs (get_or conds i no_condition))
-      ∙ ap (λ s. cond s (kept_conditions h vector (map (literal_of rs) (take i old)) ++ literal_of rs (get_or conds i no_condition) ∷ []) (kept_conditions h vector (map (literal_of rs) (take i old)))) stays-at_next)
+      ap (kept_conditions h vector) (map_more (literal_of rs) source i no_condition lt)
+      ∙ (kept_push h vector (map (literal_of rs) (take i source)) lit ∙ ap (λ s. cond s (done ++ lit ∷ []) done) stays-at_next)
 
-  trimming_no : stays_next ≡ false → Trimming rs n h vector old conds kept (i + 1)
+  trimming_no : stays_next ≡ false → Trimming rs n h vector source conds kept (i + 1)
+  unfolding done
   trimming_no no' =
+      record { are = t.are ∙ sym (next ∙ cond-false stays_next (done ++ lit ∷ []) done no'); few = t.few; behind = omega (arith, t.behind); room = t.room; between = t.between }
+
+  pub trimming_full : 16 ≤ kept → Trimming rs n h vector source conds kept (i + 1)
+  trimming_full full = trimming_no (and_left (ltb kept 16) _ (le-ltb kept 16 full))
+
+  pub trimming_high : is_low h lit ≡ false → Trimming rs n h vector source conds kept (i + 1)
+  trimming_high e = trimming_no (and_right (ltb kept 16) _ (and_left (is_low h lit && is_named vector lit) (not among) (and_left (is_low h lit) (is_named vector lit) e)))
+
+  pub trimming_unnamed : is_named vector lit ≡ false → Trimming rs n h vector source conds kept (i + 1)
+  trimming_unnamed e = trimming_no (and_right (ltb kept 16) _ (and_left (is_low h lit && is_named vector lit) (not among) (and_right (is_low h lit) (is_named vector lit) e)))
+
+  pub trimming_repeats : among ≡ true → Trimming rs n h vector source conds kept (i + 1)
+  trimming_repeats e = trimming_no (and_right (ltb kept 16) _ (and_right (is_low h lit && is_named vector lit) (not among) (not_from_true among e)))
+
+  pub trimming_keeps : kept < 16 → is_low h lit ≡ true → is_named vector lit ≡ true → among ≡ false → Trimming rs n h vector source (set conds kept one) (kept + 1) (i + 1)
+  unfolding done
+  trimming_keeps room low named new =
+      let yes' = and_from (ltb kept 16) _ (lt-ltb kept 16 room) (and_from (is_low h lit && is_named vector lit) (not among) (and_from (is_low h lit) (is_named vector lit) low named) (not_from_false among new)) in
+      let within : kept < length conds = omega (arith, t.behind, t.room) in
+      let same = get_or-set_same conds kept one no_condition within in
       record {
-        are = t.are ∙ sym (next ∙ cond-false stays_next (kept_conditions h vector (map (literal_of rs) (take i old)) ++ literal_of rs (get_or conds i no_condition) ∷ []) (kept_conditions h vector (map (literal_of rs) (take i old))) no');
-        few = t.few;
-        behind = omega (arith, t.behind);
-        long = t.long;
-        between = t.between;
-        rest = t.rest;
-      }
-
-  pub trimming_full : 16 ≤ kept → Trimming rs n h vector old conds kept (i + 1)
-  trimming_full full = trimming_no (and_left (ltb kept 16) (next_passes && not next_repeats) (le-ltb kept 16 full))
-
-  pub trimming_fails : next_passes ≡ false → Trimming rs n h vector old conds kept (i + 1)
-  trimming_fails fails = trimming_no (and_right (ltb kept 16) (next_passes && not next_repeats) (and_left next_passes (not next_repeats) fails))
-
-  pub trimming_repeats : next_repeats ≡ true → Trimming rs n h vector old conds kept (i + 1)
-  trimming_repeats repeats =
-      trimming_no (and_right (ltb kept 16) (next_passes && not next_repeats) (and_right next_passes (not next_repeats) (not_from_true next_repeats repeats)))
-
-  pub trimming_keeps : kept < 16 → next_passes ≡ true → next_repeats ≡ false → Trimming rs n h vector old (set conds kept (get_or conds i no_condition)) (kept + 1) (i + 1)
-  trimming_keeps room passes new =
-      let yes' = and_from (ltb kept 16) (next_passes && not next_repeats) (lt-ltb kept 16 room) (and_from next_passes (not next_repeats) passes (not_from_false next_repeats new)) in
-      let c = get_or conds i no_condition in
-      let within : kept < length conds = omega (arith, t.behind, t.long) in
-      let same = get_or-set_same conds kept c no_condition within in
-      record {
-        are = ap (map (literal_of rs)) (take_more_set conds kept c within)
-            ∙ (map_push (literal_of rs) (take kept conds) c
-            ∙ (ap (λ ds. ds ++ literal_of rs c ∷ []) t.are
-            ∙ sym (next ∙ cond-true stays_next (kept_conditions h vector (map (literal_of rs) (take i old)) ++ literal_of rs c ∷ []) (kept_conditions h vector (map (literal_of rs) (take i old))) yes')));
+        are = ap (map (literal_of rs)) (take_more_set conds kept one within)
+            ∙ (map_push (literal_of rs) (take kept conds) one ∙ (ap (λ ds. ds ++ lit ∷ []) t.are ∙ sym (next ∙ cond-true stays_next (done ++ lit ∷ []) done yes')));
         few = omega arith;
         behind = omega (arith, t.behind);
-        long = length-set conds kept c ∙ t.long;
+        room = omega (arith, t.room, length-set conds kept one);
         between = record {
-          lefts = λ k le'. ⊎_elim (λ e. subst (λ d. d.left < n) (sym (ap (λ u. get_or (set conds kept c) u no_condition) e ∙ same)) next_left)
-              (λ ne. subst (λ d. d.left < n) (sym (get_or-set_other conds kept k c no_condition ne)) (t.between.lefts k (omega arith))) (cases_eq k kept);
-          rights = λ k le'. ⊎_elim (λ e. subst (λ d. d.right < n) (sym (ap (λ u. get_or (set conds kept c) u no_condition) e ∙ same)) next_right)
-              (λ ne. subst (λ d. d.right < n) (sym (get_or-set_other conds kept k c no_condition ne)) (t.between.rights k (omega arith))) (cases_eq k kept);
+          lefts = λ k le'. ⊎_elim (λ e. subst (λ d. d.left < n) (sym (ap (λ u. get_or (set conds kept one) u no_condition) e ∙ same)) (b.lefts i lt))
+              (λ ne. subst (λ d. d.left < n) (sym (get_or-set_other conds kept k one no_condition ne)) (t.between.lefts k (omega arith))) (cases_eq k kept);
+          rights = λ k le'. ⊎_elim (λ e. subst (λ d. d.right < n) (sym (ap (λ u. get_or (set conds kept one) u no_condition) e ∙ same)) (b.rights i lt))
+              (λ ne. subst (λ d. d.right < n) (sym (get_or-set_other conds kept k one no_condition ne)) (t.between.rights k (omega arith))) (cases_eq k kept);
         };
-        rest = λ k le'. get_or-set_other conds kept k c no_condition (omega arith) ∙ t.rest k (omega arith);
       }

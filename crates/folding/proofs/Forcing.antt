@@ -1,7 +1,7 @@
 -- A renaming is forced on the names of what it renames, so that all renamings that fit a vector agree on the
 -- conditions whose names stand in it.
-use Rattle.std.proofs.Common.{◌≡◌, ℕ, zero, suc, ◌<◌, ◌≤◌, Bool, true, ◌&&◌, ◌||◌, List, [], ◌∷◌, map, length, get_or, take, Some, None, Option, sym, refl, ap, ◌∙◌, ⊎_elim, arith, MatchOption}
-use Rattle.std.proofs.lemmas.List.{length-take, length-take-le, get_or-take}
+use Rattle.std.proofs.Common.{◌≡◌, ℕ, zero, suc, ◌<◌, Bool, true, ◌&&◌, ◌||◌, List, [], ◌∷◌, map, length, take, Some, None, Option, sym, refl, ap, ◌∙◌, ⊎_elim, arith, MatchOption}
+use Rattle.std.proofs.lemmas.List.{length-take-le}
 use Rattle.std.specs.List.{AllByRecursion as All}
 use Rattle.std.proofs.lemmas.Bool.{eqb-true, and_parts, or_cases}
 use Rattle.terms.specs.declared.TermRecord.{TermRecord}
@@ -9,7 +9,7 @@ use Rattle.terms.specs.Terms.{Term, name, constant, unary, binary, ternary, occu
 use Rattle.terms.specs.Bank.{term_at}
 use Rattle.sheet.specs.System.{System}
 use Rattle.rows.specs.declared.row.RowRecord.{RowRecord}
-use Rattle.rows.specs.Records.{Sound, row_in}
+use Rattle.rows.specs.Records.{Inside, row_in}
 use Rattle.forms.specs.Rows.{Row, occurs_in_terms}
 use Rattle.forms.specs.Form.{names_among, is_named}
 use Rattle.forms.specs.Matching.{renamed_in, Fits}
@@ -84,25 +84,14 @@ each_from_vector rs f (i ∷ is) [] same e m lt = absurd (omega arith)
 each_from_vector rs f (i ∷ is) (j ∷ js) same e zero lt = cc
 each_from_vector rs f (i ∷ is) (j ∷ js) same e (suc m) lt = each_from_vector rs f is js (omega arith) (cc) m (omega arith)
 
-pub below_taken : (v : List ℕ) (r n m : ℕ) → m ≤ r → ((k : ℕ) → k < r → get_or v k 0 < n) → (k : ℕ) → k < m → get_or (take r v) k 0 < n
-below_taken v r n m le below k lt = let e = get_or-take r v k 0 (omega arith) in omega (arith, below k (omega arith))
-
 pub bits_apart : (s : System) (rs : List TermRecord) (older form : RowRecord) (bits : ℕ) → bits ≡ length s.bits → (take bits older.bits ≡ take bits form.bits → ⊥) → (f : ℕ → ℕ) → FitsVector f (row_in s rs older) (row_in s rs form) → ⊥
 bits_apart s rs older form bits b apart f h = apart (ap (λ k. take k older.bits) b ∙ (h.bits ∙ ap (λ k. take k form.bits) (sym b)))
 
 -- the rows of two records, and what their bits and places say of them
-module _ (s : System) (rs : List TermRecord) (n readings : ℕ) (older form : RowRecord) (r : readings ≡ length s.readings) (p : Sound s rs n 16 older) (q : Sound s rs n 16 form) where
-  pub vectors_same : length (take readings older.vector) ≡ length (take readings form.vector)
+module _ (s : System) (rs : List TermRecord) (n readings : ℕ) (older form : RowRecord) (r : readings ≡ length s.readings) (p : Inside s n 16 older) (q : Inside s n 16 form) where
+  vectors_same : length (take readings older.vector) ≡ length (take readings form.vector)
   vectors_same =
-      length-take-le readings older.vector (omega (arith, p.row.readings)) ∙ sym (length-take-le readings form.vector (omega (arith, q.row.readings)))
-
-  pub older_below : (k : ℕ) → k < length (take readings older.vector) → get_or (take readings older.vector) k 0 < n
-  older_below =
-      below_taken older.vector readings n (length (take readings older.vector)) (omega (arith, length-take readings older.vector)) (λ k lt. p.row.vector k (omega arith))
-
-  pub form_below : (k : ℕ) → k < length (take readings older.vector) → get_or (take readings form.vector) k 0 < n
-  form_below =
-      below_taken form.vector readings n (length (take readings older.vector)) (omega (arith, length-take readings older.vector)) (λ k lt. q.row.vector k (omega arith))
+      length-take-le readings older.vector (omega (arith, p.readings)) ∙ sym (length-take-le readings form.vector (omega (arith, q.readings)))
 
   pub fit_found : (bits : ℕ) → bits ≡ length s.bits → take bits older.bits ≡ take bits form.bits → (o : Option Renaming) → MatchOption o ((f : ℕ → ℕ) → RenamesEach rs (take readings older.vector) (take readings form.vector) (length (take readings older.vector)) f → ⊥) (λ found. RenamesEach rs (take readings older.vector) (take readings form.vector) (length (take readings older.vector)) (sends found) × ((x : ℕ) → sends found x < 32)) → MatchOption o ((f : ℕ → ℕ) → FitsVector f (row_in s rs older) (row_in s rs form) → ⊥) (λ found. FitsVector (sends found) (row_in s rs older) (row_in s rs form))
   fit_found bits b same None h = λ f fits. h f (each_from_vector rs f (take readings older.vector) (take readings form.vector) vectors_same (ap (λ k. map (renamed f) (map (term_at rs) (take k older.vector))) r ∙ (fits.vector ∙ ap (λ k. map (term_at rs) (take k form.vector)) (sym r))))

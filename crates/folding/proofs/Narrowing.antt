@@ -26,9 +26,6 @@ pub narrowed_tested : (to : List (Option ℕ)) (Passes : (ℕ → ℕ) → Type 
 narrowed_tested to Passes true yes' only = λ f. (λ h. (h, yes' refl f h), λ h p. h)
 narrowed_tested to Passes false yes' only = λ f h p. true≢false (sym (only f h p))
 
-pub narrowed_known : (to : List (Option ℕ)) (x y old : ℕ) → get_or to x None ≡ Some old → Narrowed to to (λ f. f x ≡ y) (eqb old y)
-narrowed_known to x y old is = narrowed_tested to (λ f. f x ≡ y) (eqb old y) (λ e f h. h x old is ∙ eqb-true old y e) (λ f h p. eq-eqb old y (sym (h x old is) ∙ p))
-
 pub narrowed_bound : (to : List (Option ℕ)) (x y : ℕ) → x < length to → get_or to x None ≡ None → Narrowed to (set to x (Some y)) (λ f. f x ≡ y) true
 narrowed_bound to x y lt free f = (
   λ h. (λ k v e. ⊎_elim (λ same. absurd (none_some (get_or to k None) v (ap (λ m. get_or to m None) same ∙ free) e)) (λ other. h k v (get_or-set_other to x k (Some y) None other ∙ e)) (cases_eq k x), h x y (get_or-set_same to x (Some y) None lt)),
@@ -36,12 +33,6 @@ narrowed_bound to x y lt free f = (
       (λ same. ap f same ∙ (p ∙ some_same y v (sym (get_or-set_same to x (Some y) None lt) ∙ (ap (λ m. get_or (set to x (Some y)) m None) (sym same) ∙ e))))
       (λ other. h k v (sym (get_or-set_other to x k (Some y) None other) ∙ e)) (cases_eq k x),
 )
-
-pub named_bound : (to : List (Option ℕ)) (x y : ℕ) → x < length to → y < 32 → ((k v : ℕ) → get_or to k None ≡ Some v → v < 32) → (k v : ℕ) → get_or (set to x (Some y)) k None ≡ Some v → v < 32
-named_bound to x y lt small named k v e =
-    ⊎_elim
-    (λ same. (let z = some_same y v (sym (get_or-set_same to x (Some y) None lt) ∙ (ap (λ m. get_or (set to x (Some y)) m None) (sym same) ∙ e)) in omega arith))
-    (λ other. named k v (sym (get_or-set_other to x k (Some y) None other) ∙ e)) (cases_eq k x)
 
 pub stronger_bound : (to : List (Option ℕ)) (x y : ℕ) → x < length to → get_or to x None ≡ None → Stronger to (set to x (Some y))
 stronger_bound to x y lt free f h = ((narrowed_bound to x y lt free f).0 h).0
@@ -110,12 +101,12 @@ narrowed_pictured rs n image to i j k b lt p is =
     (λ f h e. eq-eqb k j (b.once k j (p.inside i k is) lt (sym (p.renames i k is f h) ∙ e)))
 
 -- one more after the first k
-pub narrowed_each : (rs : List TermRecord) (older newer : List ℕ) (k : ℕ) (to to' to'' : List (Option ℕ)) (b : Bool) → Narrowed to to' (RenamesEach rs older newer k) true → Narrowed to' to'' (Renames rs (get_or older k 0) (get_or newer k 0)) b → Narrowed to to'' (RenamesEach rs older newer (k + 1)) b
-narrowed_each rs older newer k to to' to'' b before here =
-    narrowed_as to to'' (λ f. RenamesEach rs older newer k f × Renames rs (get_or older k 0) (get_or newer k 0) f) (RenamesEach rs older newer (k + 1)) b
-    (narrowed_then to to' to'' (RenamesEach rs older newer k) (Renames rs (get_or older k 0) (get_or newer k 0)) b before here)
-    (λ f w m lt. ⊎_elim (λ old. w.0 m old) (λ new. (let e : k ≡ m = omega arith in subst (λ l. Renames rs (get_or older l 0) (get_or newer l 0) f) e w.1)) (cases_lt m k))
-    (λ f w. (λ m lt. w m (omega arith), w k (omega arith)))
+pub narrowed_each : (rs : List TermRecord) (older newer : List ℕ) (k : ℕ) (to to' to'' : List (Option ℕ)) (b : Bool) (i j : ℕ) → i ≡ get_or older k 0 → j ≡ get_or newer k 0 → Narrowed to to' (RenamesEach rs older newer k) true → Narrowed to' to'' (Renames rs i j) b → Narrowed to to'' (RenamesEach rs older newer (k + 1)) b
+narrowed_each rs older newer k to to' to'' b i j is js before here =
+    narrowed_as to to'' (λ f. RenamesEach rs older newer k f × Renames rs i j f) (RenamesEach rs older newer (k + 1)) b
+    (narrowed_then to to' to'' (RenamesEach rs older newer k) (Renames rs i j) b before here)
+    (λ f w m lt. ⊎_elim (λ old. w.0 m old) (λ new. (let e : k ≡ m = omega arith in subst (λ l. Renames rs (get_or older l 0) (get_or newer l 0) f) e (subst (λ q. Renames rs (get_or older k 0) q f) js (subst (λ p. Renames rs p j f) is w.1)))) (cases_lt m k))
+    (λ f w. (λ m lt. w m (omega arith), subst (λ q. Renames rs i q f) (sym js) (subst (λ p. Renames rs p (get_or newer k 0) f) (sym is) (w k (omega arith)))))
 
 -- a test that fails early fails
 pub narrowed_early : (rs : List TermRecord) (older newer : List ℕ) (k n : ℕ) (to to' : List (Option ℕ)) → k ≤ n → Narrowed to to' (RenamesEach rs older newer k) false → Narrowed to to' (RenamesEach rs older newer n) false

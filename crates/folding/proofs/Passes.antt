@@ -1,7 +1,7 @@
 -- One more place, and one more condition, of a pass that changes terms.
 use Rattle.std.proofs.Common.{◌≡◌, ℕ, zero, suc, ◌+◌, ◌<◌, ◌≤◌, List, [], ◌∷◌, ◌++◌, map, length, get_or, take, set, Ok, Err, Option, sym, refl, ap, ◌∙◌, subst, ⊎_elim, arith}
 use Rattle.std.specs.List.{ContainsAt as Has, AllByRecursion as All}
-use Rattle.std.proofs.lemmas.List.{get_or-set_same, get_or-set_other, take_more}
+use Rattle.std.proofs.lemmas.List.{get_or-set_same, get_or-set_other, take_more, take_all}
 use Rattle.std.proofs.lemmas.Bool.{cases_lt}
 use Rattle.fault.specs.declared.TableFault.{TableFault}
 use Rattle.terms.specs.declared.Condition.{Condition}
@@ -15,17 +15,42 @@ use Rattle.folding.specs.declared.change.Change.{Change}
 use Rattle.folding.specs.Rewriting.{arg, Suits, Known, Rewritten, Walked, Became, NoRoom, PlacesChanged, side_places, ConditionsChanged}
 use Rattle.folding.proofs.Changes.{walked_none, walked_more, walked_at, walked_broken}
 
-all_fewer : (P : Term → Type 0) (f : ℕ → Term) (m u : ℕ) (xs : List ℕ) → m ≤ u → All P (map f (take u xs)) → All P (map f (take m xs))
-all_fewer P f zero u xs le h = tt
-all_fewer P f (suc m) zero xs le h = absurd (omega arith)
-all_fewer P f (suc m) (suc u) [] le h = tt
-all_fewer P f (suc m) (suc u) (x ∷ xs) le h = (h.0, all_fewer P f m u xs (omega arith) h.1)
+-- the first `used` places changed, the others as they were
+pub record PlacesChangedTo (rs : List TermRecord) (n : ℕ) (change : Change) (used : ℕ) (old new : List ℕ) (rs' : List TermRecord) (n' : ℕ) (known' : List (Option ℕ)) : Type 0 where
+  pub walked : Walked rs n change (take used old) rs' n' known'
+  pub became : (k : ℕ) → k < used → Became rs change (get_or old k 0) rs' n' (get_or new k 0)
+  pub rest : (k : ℕ) → used ≤ k → get_or new k 0 ≡ get_or old k 0
 
-all_fewer_sides : (P : Term → Type 0) (f : ℕ → Term) (m u : ℕ) (cs : List Condition) → m ≤ u → All P (map f (side_places (take u cs))) → All P (map f (side_places (take m cs)))
-all_fewer_sides P f zero u cs le h = tt
-all_fewer_sides P f (suc m) zero cs le h = absurd (omega arith)
-all_fewer_sides P f (suc m) (suc u) [] le h = tt
-all_fewer_sides P f (suc m) (suc u) (c ∷ cs) le h = (h.0, (h.1.0, all_fewer_sides P f m u cs (omega arith) h.1.1))
+pub record ConditionsChangedTo (rs : List TermRecord) (n : ℕ) (change : Change) (used : ℕ) (old new : List Condition) (rs' : List TermRecord) (n' : ℕ) (known' : List (Option ℕ)) : Type 0 where
+  pub walked : Walked rs n change (side_places (take used old)) rs' n' known'
+  pub lefts : (k : ℕ) → k < used → Became rs change (get_or old k no_condition).left rs' n' (get_or new k no_condition).left
+  pub rights : (k : ℕ) → k < used → Became rs change (get_or old k no_condition).right rs' n' (get_or new k no_condition).right
+  pub signs : (k : ℕ) → k < used → (get_or new k no_condition).sign ≡ (get_or old k no_condition).sign
+  pub rest : (k : ℕ) → used ≤ k → get_or new k no_condition ≡ get_or old k no_condition
+
+-- all of them
+pub places_all : (rs : List TermRecord) (n : ℕ) (change : Change) (used : ℕ) (old new : List ℕ) (rs' : List TermRecord) (n' : ℕ) (known' : List (Option ℕ)) → PlacesChangedTo rs n change used old new rs' n' known' → length old ≤ used → PlacesChanged rs n change old new rs' n' known'
+places_all rs n change used old new rs' n' known' h le =
+    record { walked = subst (λ l. Walked rs n change l rs' n' known') (take_all used old le) h.walked; became = λ k lt. h.became k (omega arith) }
+
+pub conditions_all : (rs : List TermRecord) (n : ℕ) (change : Change) (used : ℕ) (old new : List Condition) (rs' : List TermRecord) (n' : ℕ) (known' : List (Option ℕ)) → ConditionsChangedTo rs n change used old new rs' n' known' → length old ≤ used → ConditionsChanged rs n change old new rs' n' known'
+conditions_all rs n change used old new rs' n' known' h le =
+    record {
+      walked = subst (λ l. Walked rs n change (side_places l) rs' n' known') (take_all used old le) h.walked;
+      lefts = λ k lt. h.lefts k (omega arith);
+      rights = λ k lt. h.rights k (omega arith);
+      signs = λ k lt. h.signs k (omega arith);
+    }
+
+all_first : (P : Term → Type 0) (f : ℕ → Term) (m : ℕ) (xs : List ℕ) → All P (map f xs) → All P (map f (take m xs))
+all_first P f zero xs h = tt
+all_first P f (suc m) [] h = tt
+all_first P f (suc m) (x ∷ xs) h = (h.0, all_first P f m xs h.1)
+
+all_first_sides : (P : Term → Type 0) (f : ℕ → Term) (m : ℕ) (cs : List Condition) → All P (map f (side_places cs)) → All P (map f (side_places (take m cs)))
+all_first_sides P f zero cs h = tt
+all_first_sides P f (suc m) [] h = tt
+all_first_sides P f (suc m) (c ∷ cs) h = (h.0, (h.1.0, all_first_sides P f m cs h.1.1))
 
 sides_push : (cs : List Condition) (c : Condition) → side_places (cs ++ c ∷ []) ≡ (side_places cs ++ c.left ∷ []) ++ c.right ∷ []
 sides_push [] c = refl
@@ -35,15 +60,15 @@ pub became_later : (rs : List TermRecord) (change : Change) (old : ℕ) (rs₁ r
 became_later rs change old rs₁ rs₂ n₁ n₂ new e h = (omega (arith, h.0, e.more), (e.stays new h.0).1 ∙ h.1)
 
 module _ (rs : List TermRecord) (n : ℕ) (change : Change) (suits : Suits n change) where
-  pub places_none : Bank rs n → (old : List ℕ) (known : List (Option ℕ)) → Known rs n change known → PlacesChanged rs n change 0 old old rs n known
+  pub places_none : Bank rs n → (old : List ℕ) (known : List (Option ℕ)) → Known rs n change known → PlacesChangedTo rs n change 0 old old rs n known
   places_none b old known h = record { walked = walked_none rs n change suits b known h; became = λ k lt. absurd (omega arith); rest = λ k le. refl }
 
-  pub conditions_none : Bank rs n → (old : List Condition) (known : List (Option ℕ)) → Known rs n change known → ConditionsChanged rs n change 0 old old rs n known
+  pub conditions_none : Bank rs n → (old : List Condition) (known : List (Option ℕ)) → Known rs n change known → ConditionsChangedTo rs n change 0 old old rs n known
   conditions_none b old known h =
       record { walked = walked_none rs n change suits b known h; lefts = λ k lt. absurd (omega arith); rights = λ k lt. absurd (omega arith); signs = λ k lt. absurd (omega arith); rest = λ k le. refl }
 
-  module _ (k : ℕ) (old new : List ℕ) (rs₁ : List TermRecord) (n₁ : ℕ) (known₁ : List (Option ℕ)) (h : PlacesChanged rs n change k old new rs₁ n₁ known₁) (short : k < length old) (here : get_or old k 0 < n) (rs₂ : List TermRecord) (n₂ : ℕ) (known₂ : List (Option ℕ)) where
-    pub places_more : k < length new → (p : ℕ) → Rewritten rs₁ n₁ change (get_or new k 0) rs₂ n₂ known₂ (Ok p) → PlacesChanged rs n change (k + 1) old (set new k p) rs₂ n₂ known₂
+  module _ (k : ℕ) (old new : List ℕ) (rs₁ : List TermRecord) (n₁ : ℕ) (known₁ : List (Option ℕ)) (h : PlacesChangedTo rs n change k old new rs₁ n₁ known₁) (short : k < length old) (here : get_or old k 0 < n) (rs₂ : List TermRecord) (n₂ : ℕ) (known₂ : List (Option ℕ)) where
+    pub places_more : k < length new → (p : ℕ) → Rewritten rs₁ n₁ change (get_or new k 0) rs₂ n₂ known₂ (Ok p) → PlacesChangedTo rs n change (k + 1) old (set new k p) rs₂ n₂ known₂
     places_more room p r₀ =
         let r = subst (λ a. Rewritten rs₁ n₁ change a rs₂ n₂ known₂ (Ok p)) (h.rest k (omega arith)) r₀ in
         let w = walked_more rs n change suits (take k old) rs₁ n₁ known₁ h.walked (get_or old k 0) here rs₂ n₂ known₂ p r in
@@ -57,13 +82,13 @@ module _ (rs : List TermRecord) (n : ℕ) (change : Change) (suits : Suits n cha
           rest = λ j le. get_or-set_other new k j p 0 (omega arith) ∙ h.rest j (omega arith);
         }
 
-    pub places_broken : (used : ℕ) → k < used → (e : TableFault) → Rewritten rs₁ n₁ change (get_or new k 0) rs₂ n₂ known₂ (Err e) → NoRoom rs n change (take used old) rs₂ n₂ e
-    places_broken used lt e r₀ =
+    pub places_broken : (e : TableFault) → Rewritten rs₁ n₁ change (get_or new k 0) rs₂ n₂ known₂ (Err e) → NoRoom rs n change old rs₂ n₂ e
+    places_broken e r₀ =
         let r = subst (λ a. Rewritten rs₁ n₁ change a rs₂ n₂ known₂ (Err e)) (h.rest k (omega arith)) r₀ in
         let w = walked_broken rs n change suits (take k old) rs₁ n₁ known₁ h.walked (get_or old k 0) here rs₂ n₂ known₂ e r in
-        record { fault = w.fault; extends = w.extends; over = overfull_as rs n (map (arg rs change) (take k old ++ get_or old k 0 ∷ [])) (map (arg rs change) (take used old)) (λ all m. subst (λ l. HasAll all (map (arg rs change) l)) (take_more old k 0 short) (all_fewer (Throughout (Has all)) (arg rs change) (k + 1) used old (omega arith) m)) w.over }
+        record { fault = w.fault; extends = w.extends; over = overfull_as rs n (map (arg rs change) (take k old ++ get_or old k 0 ∷ [])) (map (arg rs change) old) (λ all m. subst (λ l. HasAll all (map (arg rs change) l)) (take_more old k 0 short) (all_first (Throughout (Has all)) (arg rs change) (k + 1) old m)) w.over }
 
-  module _ (k : ℕ) (old new : List Condition) (rs₁ : List TermRecord) (n₁ : ℕ) (known₁ : List (Option ℕ)) (h : ConditionsChanged rs n change k old new rs₁ n₁ known₁) (short : k < length old) (left : (get_or old k no_condition).left < n) (right : (get_or old k no_condition).right < n) (rs₂ : List TermRecord) (n₂ : ℕ) (known₂ : List (Option ℕ)) where
+  module _ (k : ℕ) (old new : List Condition) (rs₁ : List TermRecord) (n₁ : ℕ) (known₁ : List (Option ℕ)) (h : ConditionsChangedTo rs n change k old new rs₁ n₁ known₁) (short : k < length old) (left : (get_or old k no_condition).left < n) (right : (get_or old k no_condition).right < n) (rs₂ : List TermRecord) (n₂ : ℕ) (known₂ : List (Option ℕ)) where
     abbrev sides : List ℕ
     sides = side_places (take k old)
 
@@ -73,19 +98,19 @@ module _ (rs : List TermRecord) (n : ℕ) (change : Change) (suits : Suits n cha
     sides_more : (sides ++ one.left ∷ []) ++ one.right ∷ [] ≡ side_places (take (k + 1) old)
     sides_more = sym (ap side_places (take_more old k no_condition short) ∙ sides_push (take k old) one)
 
-    fewer : (used : ℕ) → k < used → (all : List Term) → HasAll all (map (arg rs change) (side_places (take used old))) → HasAll all (map (arg rs change) ((sides ++ one.left ∷ []) ++ one.right ∷ []))
-    fewer used lt all m =
-        subst (λ l. HasAll all (map (arg rs change) l)) (sym sides_more) (all_fewer_sides (Throughout (Has all)) (arg rs change) (k + 1) used old (omega arith) m)
+    fewer : (all : List Term) → HasAll all (map (arg rs change) (side_places old)) → HasAll all (map (arg rs change) ((sides ++ one.left ∷ []) ++ one.right ∷ []))
+    fewer all m =
+        subst (λ l. HasAll all (map (arg rs change) l)) (sym sides_more) (all_first_sides (Throughout (Has all)) (arg rs change) (k + 1) old m)
 
     map_split : (f : ℕ → Term) (xs ys : List ℕ) → map f (xs ++ ys) ≡ map f xs ++ map f ys
     map_split f [] ys = refl
     map_split f (x ∷ xs) ys = ap (λ l. f x ∷ l) (map_split f xs ys)
 
-    pub left_broken : (used : ℕ) → k < used → (e : TableFault) → Rewritten rs₁ n₁ change (get_or new k no_condition).left rs₂ n₂ known₂ (Err e) → NoRoom rs n change (side_places (take used old)) rs₂ n₂ e
-    left_broken used lt e r₀ =
+    pub left_broken : (e : TableFault) → Rewritten rs₁ n₁ change (get_or new k no_condition).left rs₂ n₂ known₂ (Err e) → NoRoom rs n change (side_places old) rs₂ n₂ e
+    left_broken e r₀ =
         let r = subst (λ a. Rewritten rs₁ n₁ change a.left rs₂ n₂ known₂ (Err e)) (h.rest k (omega arith)) r₀ in
         let w = walked_broken rs n change suits sides rs₁ n₁ known₁ h.walked one.left left rs₂ n₂ known₂ e r in
-        record { fault = w.fault; extends = w.extends; over = overfull_as rs n (map (arg rs change) (sides ++ one.left ∷ [])) (map (arg rs change) (side_places (take used old))) (λ all m. all_left (Throughout (Has all)) (map (arg rs change) (sides ++ one.left ∷ [])) (map (arg rs change) (one.right ∷ [])) (subst (HasAll all) (map_split (arg rs change) (sides ++ one.left ∷ []) (one.right ∷ [])) (fewer used lt all m))) w.over }
+        record { fault = w.fault; extends = w.extends; over = overfull_as rs n (map (arg rs change) (sides ++ one.left ∷ [])) (map (arg rs change) (side_places old)) (λ all m. all_left (Throughout (Has all)) (map (arg rs change) (sides ++ one.left ∷ [])) (map (arg rs change) (one.right ∷ [])) (subst (HasAll all) (map_split (arg rs change) (sides ++ one.left ∷ []) (one.right ∷ [])) (fewer all m))) w.over }
 
     module _ (p : ℕ) (r₀ : Rewritten rs₁ n₁ change (get_or new k no_condition).left rs₂ n₂ known₂ (Ok p)) (rs₃ : List TermRecord) (n₃ : ℕ) (known₃ : List (Option ℕ)) where
       abbrev left_done : Rewritten rs₁ n₁ change one.left rs₂ n₂ known₂ (Ok p)
@@ -94,11 +119,11 @@ module _ (rs : List TermRecord) (n : ℕ) (change : Change) (suits : Suits n cha
       abbrev left_walked : Walked rs n change (sides ++ one.left ∷ []) rs₂ n₂ known₂
       left_walked = walked_more rs n change suits sides rs₁ n₁ known₁ h.walked one.left left rs₂ n₂ known₂ p left_done
 
-      pub right_broken : (used : ℕ) → k < used → (e : TableFault) → Rewritten rs₂ n₂ change (get_or new k no_condition).right rs₃ n₃ known₃ (Err e) → NoRoom rs n change (side_places (take used old)) rs₃ n₃ e
-      right_broken used lt e q₀ =
+      pub right_broken : (e : TableFault) → Rewritten rs₂ n₂ change (get_or new k no_condition).right rs₃ n₃ known₃ (Err e) → NoRoom rs n change (side_places old) rs₃ n₃ e
+      right_broken e q₀ =
           let q = subst (λ a. Rewritten rs₂ n₂ change a.right rs₃ n₃ known₃ (Err e)) (h.rest k (omega arith)) q₀ in
           let w = walked_broken rs n change suits (sides ++ one.left ∷ []) rs₂ n₂ known₂ left_walked one.right right rs₃ n₃ known₃ e q in
-          record { fault = w.fault; extends = w.extends; over = overfull_as rs n (map (arg rs change) ((sides ++ one.left ∷ []) ++ one.right ∷ [])) (map (arg rs change) (side_places (take used old))) (fewer used lt) w.over }
+          record { fault = w.fault; extends = w.extends; over = overfull_as rs n (map (arg rs change) ((sides ++ one.left ∷ []) ++ one.right ∷ [])) (map (arg rs change) (side_places old)) fewer w.over }
 
       module _ (room : k < length new) (q : ℕ) (q₀ : Rewritten rs₂ n₂ change (get_or new k no_condition).right rs₃ n₃ known₃ (Ok q)) where
         abbrev made : Condition
@@ -114,7 +139,7 @@ module _ (rs : List TermRecord) (n : ℕ) (change : Change) (suits : Suits n cha
             (λ ge. (let e : k ≡ j = omega arith in subst (λ i. P (get_or old i no_condition) (get_or (set new k made) i no_condition)) e (subst (P one) (sym (get_or-set_same new k made no_condition room)) now')))
             (cases_lt j k)
 
-        pub conditions_more : ConditionsChanged rs n change (k + 1) old (set new k made) rs₃ n₃ known₃
+        pub conditions_more : ConditionsChangedTo rs n change (k + 1) old (set new k made) rs₃ n₃ known₃
         conditions_more =
             let e₁ = left_done.0.gained.extends in
             let e₂ = right_done.0.gained.extends in

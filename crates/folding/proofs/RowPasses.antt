@@ -1,5 +1,5 @@
 -- A row changed throughout, from its vector and its conditions.
-use Rattle.std.proofs.Common.{◌≡◌, ℕ, zero, suc, ◌<◌, ◌≤◌, List, [], ◌∷◌, ◌++◌, map, length, get_or, take, replicate, Some, None, Option, sym, refl, ap, ◌∙◌, subst, arith}
+use Rattle.std.proofs.Common.{◌≡◌, ℕ, zero, suc, ◌<◌, List, [], ◌∷◌, ◌++◌, map, length, get_or, take, drop, replicate, length-append, Some, None, Option, sym, refl, ap, ◌∙◌, subst, arith}
 use Rattle.std.specs.List.{ContainsAt as Has}
 use Rattle.std.proofs.lemmas.List.{length-take-le, get_or-take}
 use Rattle.fault.specs.declared.TableFault.{TableFault}
@@ -22,6 +22,7 @@ use Rattle.folding.specs.Rewriting.{changed, arg, Suits, Known, Became, Refused,
 use Rattle.folding.specs.Rewritten.{changed_in, changed_row, RowChanged}
 use Rattle.folding.proofs.Changes.{arg_stays}
 use Rattle.folding.proofs.Passes.{became_later}
+use Rattle.folding.proofs.Entailed.{front_taken}
 
 pub known_none : (rs : List TermRecord) (n : ℕ) (change : Change) (k : ℕ) → Known rs n change (replicate k None)
 known_none rs n change zero i p is = let z : ◌≡◌ {A = ℕ} 0 1 = cc in absurd (omega arith)
@@ -35,12 +36,12 @@ known_none rs n change (suc k) (suc i) p is =
     empty (suc k) (suc i) p is = empty k i p is
 
 -- lists of equal length that are alike at each place
-pub alike : {X Y Z : Type 0} (f : X → Z) (g : Y → Z) (d : X) (e : Y) (k : ℕ) (xs : List X) (ys : List Y) → k ≤ length xs → k ≤ length ys → ((j : ℕ) → j < k → f (get_or xs j d) ≡ g (get_or ys j e)) → map f (take k xs) ≡ map g (take k ys)
-alike f g d e zero xs ys p q h = refl
-alike f g d e (suc k) [] ys p q h = absurd (omega arith)
-alike f g d e (suc k) (x ∷ xs) [] p q h = absurd (omega arith)
-alike f g d e (suc k) (x ∷ xs) (y ∷ ys) p q h =
-    let a = h 0 (omega arith) in let b = alike f g d e k xs ys (omega arith) (omega arith) (λ j lt. h (suc j) (omega arith)) in cc
+pub alike : {X Y Z : Type 0} (f : X → Z) (g : Y → Z) (d : X) (e : Y) (xs : List X) (ys : List Y) → length xs ≡ length ys → ((j : ℕ) → j < length ys → f (get_or xs j d) ≡ g (get_or ys j e)) → map f xs ≡ map g ys
+alike f g d e [] [] p h = refl
+alike f g d e [] (y ∷ ys) p h = absurd (omega arith)
+alike f g d e (x ∷ xs) [] p h = absurd (omega arith)
+alike f g d e (x ∷ xs) (y ∷ ys) p h =
+    let a = h 0 (omega arith) in let b = alike f g d e xs ys (omega arith) (λ j lt. h (suc j) (omega arith)) in cc
 
 pub map-map : {X Y Z : Type 0} (f : X → Y) (g : Y → Z) (xs : List X) → map g (map f xs) ≡ map (λ x. g (f x)) xs
 map-map f g [] = refl
@@ -88,38 +89,67 @@ module _ (rs : List TermRecord) (n : ℕ) (change : Change) (suits : Suits n cha
     vector_broken f rs' n' h =
         record { fault = h.fault; extends = h.extends; over = overfull_as rs n (map (arg rs change) (take (length s.readings) row.vector)) (terms_in (changed_row rs change (row_in s rs row))) (λ all m. all_left (Throughout (Has all)) (map (arg rs change) (take (length s.readings) row.vector)) (map (arg rs₁ change) old_sides) (subst (HasAll all) (sym terms_are) m)) h.over }
 
-    module _ (vector' : List ℕ) (known₁ : List (Option ℕ)) (p : PlacesChanged rs n change (length s.readings) row.vector vector' rs₁ n₁ known₁) (same-vector : length vector' ≡ length row.vector) where
+    abbrev places : List ℕ
+    places = take (length s.readings) row.vector
+
+    abbrev conditions : List Condition
+    conditions = take row.used row.conditions
+
+    module _ (places' : List ℕ) (same_places : length places' ≡ length places) (known₁ : List (Option ℕ)) (p : PlacesChanged rs n change places places' rs₁ n₁ known₁) where
       pub conditions_broken : (f : TableFault) (rs' : List TermRecord) (n' : ℕ) → NoRoom rs₁ n₁ change old_sides rs' n' f → Refused rs n (terms_in (changed_row rs change (row_in s rs row))) rs' n' f
       conditions_broken f rs' n' h =
-          record { fault = h.fault; extends = extends_more rs rs₁ rs' n n₁ n' p.walked.gained.extends h.extends; over = subst (Overfull rs n) terms_are (overfull_later rs rs₁ n n₁ (map (arg rs change) (take (length s.readings) row.vector)) p.walked.gained (map (arg rs₁ change) old_sides) h.over) }
+          record { fault = h.fault; extends = extends_more rs rs₁ rs' n n₁ n' p.walked.gained.extends h.extends; over = subst (Overfull rs n) terms_are (overfull_later rs rs₁ n n₁ (map (arg rs change) places) p.walked.gained (map (arg rs₁ change) old_sides) h.over) }
 
-      module _ (conditions' : List Condition) (rs₂ : List TermRecord) (n₂ : ℕ) (known₂ : List (Option ℕ)) (c : ConditionsChanged rs₁ n₁ change row.used row.conditions conditions' rs₂ n₂ known₂) (same-conditions : length conditions' ≡ length row.conditions) where
+      module _ (conditions' : List Condition) (same_conditions : length conditions' ≡ length conditions) (rs₂ : List TermRecord) (n₂ : ℕ) (known₂ : List (Option ℕ)) (c : ConditionsChanged rs₁ n₁ change conditions conditions' rs₂ n₂ known₂) where
+        abbrev vector' : List ℕ
+        vector' = places' ++ drop (length s.readings) row.vector
+
+        abbrev all : List Condition
+        all = conditions' ++ drop row.used row.conditions
+
         abbrev made : RowRecord
-        made = record { bits = row.bits; vector = vector'; conditions = conditions'; used = row.used }
+        made = record { bits = row.bits; vector = vector'; conditions = all; used = row.used }
 
-        vector_is : (j : ℕ) → j < length s.readings → Became rs change (get_or row.vector j 0) rs₂ n₂ (get_or vector' j 0)
-        vector_is j lt = became_later rs change (get_or row.vector j 0) rs₁ rs₂ n₁ n₂ (get_or vector' j 0) c.walked.gained.extends (p.became j lt)
+        place_is : (j : ℕ) → j < length places → Became rs change (get_or places j 0) rs₂ n₂ (get_or places' j 0)
+        place_is j lt = became_later rs change (get_or places j 0) rs₁ rs₂ n₁ n₂ (get_or places' j 0) c.walked.gained.extends (p.became j lt)
 
-        literal_is : (j : ℕ) → j < row.used → literal_of rs₂ (get_or conditions' j no_condition) ≡ changed_in rs change (literal_of rs (get_or row.conditions j no_condition))
+        literal_is : (j : ℕ) → j < length conditions → literal_of rs₂ (get_or conditions' j no_condition) ≡ changed_in rs change (literal_of rs (get_or conditions j no_condition))
         literal_is j lt =
-            literals_equal (literal_of rs₂ (get_or conditions' j no_condition)) (changed_in rs change (literal_of rs (get_or row.conditions j no_condition)))
-            ((c.lefts j lt).1 ∙ arg_stays rs rs₁ n n₁ e change suits (get_or row.conditions j no_condition).left (inside.conditions.lefts j lt))
-            ((c.rights j lt).1 ∙ arg_stays rs rs₁ n n₁ e change suits (get_or row.conditions j no_condition).right (inside.conditions.rights j lt))
+            literals_equal (literal_of rs₂ (get_or conditions' j no_condition)) (changed_in rs change (literal_of rs (get_or conditions j no_condition)))
+            ((c.lefts j lt).1 ∙ arg_stays rs rs₁ n n₁ e change suits (get_or conditions j no_condition).left (side_left j lt))
+            ((c.rights j lt).1 ∙ arg_stays rs rs₁ n n₁ e change suits (get_or conditions j no_condition).right (side_right j lt))
             (c.signs j lt)
+
+        length_places : length places ≡ length s.readings
+        length_places = length-take-le (length s.readings) row.vector inside.readings
+
+        length_conditions : length conditions ≡ row.used
+        length_conditions = length-take-le row.used row.conditions inside.stored
+
+        front : take (length s.readings) vector' ≡ places'
+        front = front_taken (length s.readings) places' (drop (length s.readings) row.vector) (same_places ∙ length_places)
+
+        taken : take row.used all ≡ conditions'
+        taken = front_taken row.used conditions' (drop row.used row.conditions) (same_conditions ∙ length_conditions)
 
         pub row_changed : RowChanged s rs n change row rs₂ n₂ made
         row_changed =
+            let place : (k : ℕ) → k < length s.readings → get_or vector' k 0 ≡ get_or places' k 0 = λ k lt. sym (get_or-take (length s.readings) vector' k 0 lt) ∙ ap (λ l. get_or l k 0) front in
+            let one : (k : ℕ) → k < row.used → get_or conditions' k no_condition ≡ get_or all k no_condition = λ k lt. ap (λ l. get_or l k no_condition) (sym taken) ∙ get_or-take row.used all k no_condition lt in
             record {
-              gained = subst (λ ts. Gained rs n ts rs₂ n₂) terms_are (gained_more rs rs₁ n n₁ (map (arg rs change) (take (length s.readings) row.vector)) p.walked.gained (map (arg rs₁ change) old_sides) rs₂ n₂ c.walked.gained);
+              gained = subst (λ ts. Gained rs n ts rs₂ n₂) terms_are (gained_more rs rs₁ n n₁ (map (arg rs change) places) p.walked.gained (map (arg rs₁ change) old_sides) rs₂ n₂ c.walked.gained);
               is = same_row (row_in s rs₂ made) (changed_row rs change (row_in s rs row)) refl
-                  (alike (term_at rs₂) (arg rs change) 0 0 (length s.readings) vector' row.vector (omega (arith, inside.readings, same-vector)) inside.readings (λ j lt. (vector_is j lt).1) ∙ sym (map-map (term_at rs) (changed rs change) (take (length s.readings) row.vector)))
-                  (alike (literal_of rs₂) (λ d. changed_in rs change (literal_of rs d)) no_condition no_condition row.used conditions' row.conditions (omega (arith, inside.stored, same-conditions)) inside.stored literal_is ∙ sym (map-map (literal_of rs) (changed_in rs change) (take row.used row.conditions)));
+                  (ap (map (term_at rs₂)) front ∙ (alike (term_at rs₂) (arg rs change) 0 0 places' places same_places (λ j lt. (place_is j lt).1) ∙ sym (map-map (term_at rs) (changed rs change) places)))
+                  (ap (map (literal_of rs₂)) taken ∙ (alike (literal_of rs₂) (λ d. changed_in rs change (literal_of rs d)) no_condition no_condition conditions' conditions same_conditions literal_is ∙ sym (map-map (literal_of rs) (changed_in rs change) conditions)));
               inside = record {
                 bits = inside.bits;
-                readings = omega (arith, inside.readings, same-vector);
-                vector = λ k lt. (vector_is k lt).0;
+                readings = omega (arith, length-append places' (drop (length s.readings) row.vector), same_places, length_places);
+                vector = λ k lt. (let at = (place_is k (omega (arith, length_places))).0 in omega (arith, place k lt));
                 few = inside.few;
-                stored = omega (arith, inside.stored, same-conditions);
-                conditions = record { lefts = λ k lt. (c.lefts k lt).0; rights = λ k lt. (c.rights k lt).0 };
+                stored = omega (arith, length-append conditions' (drop row.used row.conditions), same_conditions, length_conditions);
+                conditions = record {
+                  lefts = λ k lt. subst (λ (d : Condition). d.left < n₂) (one k lt) (c.lefts k (omega (arith, length_conditions))).0;
+                  rights = λ k lt. subst (λ (d : Condition). d.right < n₂) (one k lt) (c.rights k (omega (arith, length_conditions))).0;
+                };
               };
             }

@@ -1,7 +1,6 @@
 -- An older row's conditions, renamed in the bank, are those that the renaming makes of them.
-use Rattle.std.proofs.Common.{◌≡◌, ℕ, ◌≤◌, Bool, List, [], ◌∷◌, ◌++◌, map, length, get_or, take, Ok, Err, Decides, Option, sym, refl, ap, ◌∙◌, subst, arith}
+use Rattle.std.proofs.Common.{◌≡◌, ℕ, Bool, List, [], ◌∷◌, ◌++◌, map, length, get_or, Ok, Err, Decides, Option, sym, refl, ap, ◌∙◌, subst, arith}
 use Rattle.std.specs.List.{AllByRecursion as All}
-use Rattle.std.proofs.lemmas.List.{length-take, get_or-take}
 use Rattle.fault.specs.declared.TableFault.{TableFault}
 use Rattle.terms.specs.declared.Condition.{Condition}
 use Rattle.terms.specs.declared.TermRecord.{TermRecord}
@@ -20,9 +19,9 @@ use Rattle.folding.specs.Matched.{sends, Weighed}
 use Rattle.folding.proofs.RowPasses.{alike, map-map, literals_equal}
 
 -- conditions between terms that stay
-pub literals_stay : (rs rs' : List TermRecord) (n : ℕ) → Stays n rs rs' → (conds : List Condition) (used : ℕ) → used ≤ length conds → Between n conds used → literals rs' (take used conds) ≡ literals rs (take used conds)
-literals_stay rs rs' n stays conds used le between =
-    alike (literal_of rs') (literal_of rs) no_condition no_condition used conds conds le le
+pub literals_stay : (rs rs' : List TermRecord) (n : ℕ) → Stays n rs rs' → (conds : List Condition) → Between n conds (length conds) → literals rs' conds ≡ literals rs conds
+literals_stay rs rs' n stays conds between =
+    alike (literal_of rs') (literal_of rs) no_condition no_condition conds conds refl
     (λ k lt. (let c = get_or conds k no_condition in
     literals_equal (literal_of rs' c) (literal_of rs c) (stays c.left (between.lefts k lt)).1 (stays c.right (between.rights k lt)).1 refl))
 
@@ -31,32 +30,23 @@ module _ (rs : List TermRecord) (n : ℕ) (r : Renaming) where
   sides_renamed [] = refl
   sides_renamed (c ∷ cs) = ap (λ ts. renamed (sends r) (term_at rs c.left) ∷ renamed (sends r) (term_at rs c.right) ∷ ts) (sides_renamed cs)
 
-  module _ (used : ℕ) (old new : List Condition) (rs' : List TermRecord) (n' : ℕ) (known' : List (Option ℕ)) (h : ConditionsChanged rs n (Rename r.to) used old new rs' n' known') where
-    pub literals-renamed : used ≤ length old → used ≤ length new → literals rs' (take used new) ≡ map (renamed_in (sends r)) (literals rs (take used old))
-    literals-renamed p q =
-        alike (literal_of rs') (λ c. renamed_in (sends r) (literal_of rs c)) no_condition no_condition used new old q p
+  module _ (old new : List Condition) (rs' : List TermRecord) (n' : ℕ) (known' : List (Option ℕ)) (h : ConditionsChanged rs n (Rename r.to) old new rs' n' known') (same : length new ≡ length old) where
+    literals-renamed : literals rs' new ≡ map (renamed_in (sends r)) (literals rs old)
+    literals-renamed =
+        alike (literal_of rs') (λ c. renamed_in (sends r) (literal_of rs c)) no_condition no_condition new old same
         (λ k lt. literals_equal (literal_of rs' (get_or new k no_condition)) (renamed_in (sends r) (literal_of rs (get_or old k no_condition))) (h.lefts k lt).1 (h.rights k lt).1 (h.signs k lt))
-        ∙ sym (map-map (literal_of rs) (renamed_in (sends r)) (take used old))
+        ∙ sym (map-map (literal_of rs) (renamed_in (sends r)) old)
 
-    pub goals_between : Between n' new used
-    goals_between = record { lefts = λ k lt. (h.lefts k lt).0; rights = λ k lt. (h.rights k lt).0 }
+    pub goals_between : Between n' new (length new)
+    goals_between = record { lefts = λ k lt. (h.lefts k (omega (arith, same))).0; rights = λ k lt. (h.rights k (omega (arith, same))).0 }
 
-    pub given_between : (conds : List Condition) (m : ℕ) → Between n conds m → Between n' (take m conds) (length (take m conds))
-    given_between conds m b =
-        let more = h.walked.gained.extends.more in
-        let short = length-take m conds in
-        record {
-          lefts = λ k lt. (let e = ap (λ (c : Condition). c.left) (get_or-take m conds k no_condition (omega arith)) in omega (arith, b.lefts k (omega arith)));
-          rights = λ k lt. (let e = ap (λ (c : Condition). c.right) (get_or-take m conds k no_condition (omega arith)) in omega (arith, b.rights k (omega arith)));
-        }
-
-    pub weighed : used ≤ length old → used ≤ length new → (given : List Condition) (m : ℕ) → m ≤ length given → Between n given m → (answer : Bool) → Decides answer (All (Entails (literals rs' (take m given))) (literals rs' (take used new))) → Weighed rs n (sends r) (literals rs (take used old)) (literals rs (take m given)) (Ok answer)
-    weighed p q given m le b answer decides = (
-      λ seen held. subst (λ ts. Roomy (seen ++ ts)) (sides_renamed (take used old)) (roomy_gained rs n seen held (map (arg rs (Rename r.to)) (side_places (take used old))) rs' n' h.walked.gained),
-      subst (λ goals. Decides answer (All (Entails (literals rs (take m given))) goals)) (literals-renamed p q)
-          (subst (λ cs. Decides answer (All (Entails cs) (literals rs' (take used new)))) (literals_stay rs rs' n h.walked.gained.extends.stays given m le b) decides),
+    pub weighed : (given : List Condition) → Between n given (length given) → (answer : Bool) → Decides answer (All (Entails (literals rs' given)) (literals rs' new)) → Weighed rs n (sends r) (literals rs old) (literals rs given) (Ok answer)
+    weighed given b answer decides = (
+      λ seen held. subst (λ ts. Roomy (seen ++ ts)) (sides_renamed old) (roomy_gained rs n seen held (map (arg rs (Rename r.to)) (side_places old)) rs' n' h.walked.gained),
+      subst (λ goals. Decides answer (All (Entails (literals rs given)) goals)) literals-renamed
+          (subst (λ cs. Decides answer (All (Entails cs) (literals rs' new))) (literals_stay rs rs' n h.walked.gained.extends.stays given b) decides),
     )
 
-  pub unweighed : (used : ℕ) (old : List Condition) (rs' : List TermRecord) (n' : ℕ) (e : TableFault) → NoRoom rs n (Rename r.to) (side_places (take used old)) rs' n' e → (given : List Literal) → Weighed rs n (sends r) (literals rs (take used old)) given (Err e)
-  unweighed used old rs' n' e h given =
-      (h.fault, λ seen held. subst (λ ts. Crowded (seen ++ ts)) (sides_renamed (take used old)) (crowded_overfull rs n seen held (map (arg rs (Rename r.to)) (side_places (take used old))) h.over))
+  pub unweighed : (old : List Condition) (rs' : List TermRecord) (n' : ℕ) (e : TableFault) → NoRoom rs n (Rename r.to) (side_places old) rs' n' e → (given : List Literal) → Weighed rs n (sends r) (literals rs old) given (Err e)
+  unweighed old rs' n' e h given =
+      (h.fault, λ seen held. subst (λ ts. Crowded (seen ++ ts)) (sides_renamed old) (crowded_overfull rs n seen held (map (arg rs (Rename r.to)) (side_places old)) h.over))

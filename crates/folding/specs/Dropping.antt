@@ -1,9 +1,8 @@
 -- Which conditions a form keeps: words for the contracts of inner functions. Assumes nothing.
-use Rattle.std.specs.Prelude.{◌≡◌, ℕ, ◌/◌, ◌%◌, ◌^◌, Bool, false, cond, ◌&&◌, ◌||◌, List, [], ◌∷◌, take, filter, ◌==◌}
-use Rattle.terms.specs.declared.Condition.{Condition}
+use Rattle.std.specs.Prelude.{◌≡◌, ℕ, ◌/◌, ◌%◌, ◌^◌, cond, List, [], take, filter}
 use Rattle.terms.specs.Terms.{Term, Literal}
 use Rattle.forms.specs.Rows.{occurs_in_terms}
-use Rattle.forms.specs.Form.{is_low, is_named, same_sign, without_repeats}
+use Rattle.forms.specs.Form.{is_low, is_named, without_repeats}
 
 -- the conditions that stay in a row with this vector, at height h
 abbrev pub kept_conditions : ℕ → List Term → List Literal → List Literal
@@ -12,11 +11,3 @@ kept_conditions h vector cs = take 16 (without_repeats [] (filter (is_named vect
 -- bit x is set exactly where name x stands in one of the terms
 abbrev pub NamesIn : ℕ → List Term → Type 0
 NamesIn names ts = (x : ℕ) → names / 2 ^ x % 2 ≡ cond (occurs_in_terms x ts) 1 0
-
--- the same places with the same sign between them
-abbrev pub same_condition : Condition → Condition → Bool
-same_condition c d = c.left == d.left && (c.right == d.right && same_sign c.sign d.sign)
-
-abbrev pub is_repeated : List Condition → Condition → Bool
-is_repeated [] c = false
-is_repeated (d ∷ ds) c = same_condition c d || is_repeated ds c

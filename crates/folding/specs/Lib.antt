@@ -4,3 +4,4 @@ pub mod Dropping
 pub mod Outcome
 pub mod Pairing
 pub mod Matched
+pub mod Viewing

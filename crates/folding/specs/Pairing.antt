@@ -2,7 +2,7 @@
 use Rattle.std.specs.Prelude.{◌≡◌, ℕ, ◌<◌, ◌≤◌, Bool, true, false, List, length, Some, None, Option, slice_index, slice_index_or}
 use Rattle.terms.specs.declared.TermRecord.{TermRecord}
 use Rattle.terms.specs.Terms.{renamed}
-use Rattle.terms.specs.Bank.{Bank, term_at}
+use Rattle.terms.specs.Bank.{term_at}
 
 -- the renaming f sends each name that is bound so far to what it is bound to
 abbrev pub Respects : (ℕ → ℕ) → List (Option ℕ) → Type 0
@@ -33,9 +33,8 @@ pub record Pictured (rs : List TermRecord) (n : ℕ) (image to : List (Option �
   pub renames : (i j : ℕ) → slice_index_or image i None ≡ Some j → (f : ℕ → ℕ) → Respects f to → Renames rs i j f
   pub named : (x y : ℕ) → slice_index_or to x None ≡ Some y → y < 32
 
--- memory in which terms can be paired
+-- room for pairs, and those so far
 pub record Walkable (rs : List TermRecord) (n : ℕ) (image to : List (Option ℕ)) : Type 0 where
-  pub bank : Bank rs n
   pub pictures : 512 ≤ length image
   pub names : 32 ≤ length to
   pub pictured : Pictured rs n image to

@@ -1,5 +1,5 @@
 -- Terms of the bank changed throughout: one replaced by a name, or every name renamed. Assumes nothing.
-use Rattle.std.specs.Prelude.{◌≡◌, ℕ, ◌<◌, ◌≤◌, cond, List, [], ◌∷◌, map, get_or, take, Some, None, Ok, Err, Option, Result, ◌==◌, slice_index, slice_index_or, slice_set}
+use Rattle.std.specs.Prelude.{◌≡◌, ℕ, ◌<◌, cond, List, [], ◌∷◌, map, length, get_or, Some, None, Ok, Err, Option, Result, ◌==◌, slice_index, slice_index_or, slice_set}
 use Rattle.fault.specs.declared.TableFault.{TableFault}
 use Rattle.fault.specs.declared.TableFault.TheVariants.{TermsExhausted}
 use Rattle.terms.specs.declared.Condition.{Condition}
@@ -81,20 +81,18 @@ Became rs change old rs' n' new = (new < n') × (term_at rs' new ≡ arg rs chan
 abbrev pub NoRoom : List TermRecord → ℕ → Change → List ℕ → List TermRecord → ℕ → TableFault → Type 0
 NoRoom rs n change places rs' n' e = Refused rs n (map (arg rs change) places) rs' n' e
 
--- the first `used` places changed, the others as they were
-pub record PlacesChanged (rs : List TermRecord) (n : ℕ) (change : Change) (used : ℕ) (old new : List ℕ) (rs' : List TermRecord) (n' : ℕ) (known' : List (Option ℕ)) : Type 0 where
-  pub walked : Walked rs n change (take used old) rs' n' known'
-  pub became : (k : ℕ) → k < used → Became rs change (slice_index old k) rs' n' (slice_index new k)
-  pub rest : (k : ℕ) → used ≤ k → slice_index new k ≡ slice_index old k
+-- the terms at some places changed
+pub record PlacesChanged (rs : List TermRecord) (n : ℕ) (change : Change) (old new : List ℕ) (rs' : List TermRecord) (n' : ℕ) (known' : List (Option ℕ)) : Type 0 where
+  pub walked : Walked rs n change old rs' n' known'
+  pub became : (k : ℕ) → k < length old → Became rs change (slice_index old k) rs' n' (slice_index new k)
 
 -- both sides of each condition
 abbrev pub side_places : List Condition → List ℕ
 side_places [] = []
 side_places (c ∷ cs) = c.left ∷ c.right ∷ side_places cs
 
-pub record ConditionsChanged (rs : List TermRecord) (n : ℕ) (change : Change) (used : ℕ) (old new : List Condition) (rs' : List TermRecord) (n' : ℕ) (known' : List (Option ℕ)) : Type 0 where
-  pub walked : Walked rs n change (side_places (take used old)) rs' n' known'
-  pub lefts : (k : ℕ) → k < used → Became rs change (get_or old k no_condition).left rs' n' (get_or new k no_condition).left
-  pub rights : (k : ℕ) → k < used → Became rs change (get_or old k no_condition).right rs' n' (get_or new k no_condition).right
-  pub signs : (k : ℕ) → k < used → (get_or new k no_condition).sign ≡ (get_or old k no_condition).sign
-  pub rest : (k : ℕ) → used ≤ k → slice_index_or new k no_condition ≡ slice_index_or old k no_condition
+pub record ConditionsChanged (rs : List TermRecord) (n : ℕ) (change : Change) (old new : List Condition) (rs' : List TermRecord) (n' : ℕ) (known' : List (Option ℕ)) : Type 0 where
+  pub walked : Walked rs n change (side_places old) rs' n' known'
+  pub lefts : (k : ℕ) → k < length old → Became rs change (get_or old k no_condition).left rs' n' (get_or new k no_condition).left
+  pub rights : (k : ℕ) → k < length old → Became rs change (get_or old k no_condition).right rs' n' (get_or new k no_condition).right
+  pub signs : (k : ℕ) → k < length old → (get_or new k no_condition).sign ≡ (get_or old k no_condition).sign

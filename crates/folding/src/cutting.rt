@@ -1,8 +1,8 @@
 //! Cuts: while a vector term is too high, a term of height 1 in it becomes a name.
-ghost use Rattle.std.specs.Prelude.{◌≡◌, ℕ, suc, ◌<◌, ◌≤◌, map, length, take, Some, None, MatchOption, MatchResult, slice_index};
+ghost use Rattle.std.specs.Prelude.{◌≡◌, ℕ, suc, ◌<◌, map, length, Some, None, MatchOption, MatchResult, slice_index};
 ghost use Rattle.sheet.specs.View.{sheet_of};
 ghost use Rattle.terms.specs.Terms.{height};
-ghost use Rattle.terms.specs.Bank.{Bank, term_at};
+ghost use Rattle.terms.specs.Bank.{term_at};
 ghost use Rattle.forms.specs.Form.{first_higher, lowest};
 ghost use Rattle.forms.specs.Counted.{terms_in};
 ghost use Rattle.rows.specs.Records.{row_in, Sound};
@@ -12,79 +12,71 @@ ghost use Rattle.folding.specs.Rewritten.{changed_row, RowChanged};
 
 use crate::change::Change;
 use crate::rewriting::{rewrite_conditions, rewrite_places};
+use crate::view::View;
 use fault::TableFault;
 use rows::{RowRecord, lowest_free, names_of_row, readings_of};
 use sheet::Sheet;
-use terms::{Count, Node, TermRecord};
+use terms::{Count, MOST_TERMS, Node, TermRecord};
 
-/// The first of the vector's terms that is higher than `bound`.
-fn first_higher(
-    bank: &[TermRecord],
-    terms: usize,
-    places: &[u16],
-    readings: usize,
-    bound: u8,
-) -> Option<u16>
-    requires bank { Bank bank.now terms }
-    requires room { readings ≤ length places.now }
-    requires inside { (k : ℕ) → k < readings → slice_index places.now k < terms }
-    ensures { MatchOption result (first_higher bound (map (term_at bank.now) (take readings places.now)) ≡ None) (λ p. (p < terms) × (first_higher bound (map (term_at bank.now) (take readings places.now)) ≡ Some (term_at bank.now p)) × (bound < height (term_at bank.now p))) }
-{
-    for k in 0..readings {
-        let place = places[k];
-        if bank[place as usize].height > bound as u16 {
-            return Some(place);
-        }
-    }
-    None
-}
-
-/// The first argument exactly one lower than the term, which is higher than 1.
-fn step_down(bank: &[TermRecord], terms: usize, place: u16) -> u16
-    requires bank { Bank bank.now terms }
-    requires inside { place < terms }
-    requires high { 1 < height (term_at bank.now place) }
-    ensures lower { result < place }
-    ensures way { lowest (term_at bank.now place) ≡ lowest (term_at bank.now result) }
-    ensures one { height (term_at bank.now place) ≡ suc (height (term_at bank.now result)) }
-{
-    let term = bank[place as usize];
-    let lower = term.height - 1;
-    match term.node {
-        Node::Name(_) | Node::Constant(_) => place,
-        Node::Unary(_, a) => a,
-        Node::Binary(_, a, b) => {
-            if bank[a as usize].height == lower {
-                a
-            } else {
-                b
+impl View<'_> {
+    /// The first of the terms at these places that is higher than `bound`.
+    fn first_higher(&self, places: &[u16], bound: u8) -> Option<u16>
+        requires { (k : ℕ) → k < length places.now → slice_index places.now k < self.now.count.terms }
+        ensures { MatchOption result (first_higher bound (map (term_at self.now.records.now) places.now) ≡ None) (λ p. (p < self.now.count.terms) × (first_higher bound (map (term_at self.now.records.now) places.now) ≡ Some (term_at self.now.records.now p)) × (bound < height (term_at self.now.records.now p))) }
+    {
+        for place in places {
+            if self.records[*place as usize].height > bound as u16 {
+                return Some(*place);
             }
         }
-        Node::Ternary(_, a, b, c) => {
-            if bank[a as usize].height == lower {
-                a
-            } else if bank[b as usize].height == lower {
-                b
-            } else {
-                c
+        None
+    }
+
+    /// The first argument exactly one lower than the term, which is higher than 1.
+    fn step_down(&self, place: u16) -> u16
+        requires inside { place < self.now.count.terms }
+        requires high { 1 < height (term_at self.now.records.now place) }
+        ensures lower { result < place }
+        ensures way { lowest (term_at self.now.records.now place) ≡ lowest (term_at self.now.records.now result) }
+        ensures one { height (term_at self.now.records.now place) ≡ suc (height (term_at self.now.records.now result)) }
+    {
+        let term = self.records[place as usize];
+        let lower = term.height - 1;
+        match term.node {
+            Node::Name(_) | Node::Constant(_) => place,
+            Node::Unary(_, a) => a,
+            Node::Binary(_, a, b) => {
+                if self.records[a as usize].height == lower {
+                    a
+                } else {
+                    b
+                }
+            }
+            Node::Ternary(_, a, b, c) => {
+                if self.records[a as usize].height == lower {
+                    a
+                } else if self.records[b as usize].height == lower {
+                    b
+                } else {
+                    c
+                }
             }
         }
     }
-}
 
-/// The place of the term of height 1 to which the way down from `place` leads.
-fn way_down(bank: &[TermRecord], terms: usize, place: u16) -> u16
-    requires bank { Bank bank.now terms }
-    requires inside { place < terms }
-    requires high { 0 < height (term_at bank.now place) }
-    ensures inside { result < terms }
-    ensures is { term_at bank.now result ≡ lowest (term_at bank.now place) }
-{
-    let mut at = place;
-    while bank[at as usize].height > 1 {
-        at = step_down(bank, terms, at);
+    /// The place of the term of height 1 to which the way down from `place` leads.
+    fn way_down(&self, place: u16) -> u16
+        requires inside { place < self.now.count.terms }
+        requires high { 0 < height (term_at self.now.records.now place) }
+        ensures inside { result < self.now.count.terms }
+        ensures is { term_at self.now.records.now result ≡ lowest (term_at self.now.records.now place) }
+    {
+        let mut at = place;
+        while self.records[at as usize].height > 1 {
+            at = self.step_down(at);
+        }
+        at
     }
-    at
 }
 
 /// The row with the change made throughout. What a place became is remembered for this change alone.
@@ -99,18 +91,18 @@ fn rewrite_row(
     requires suits { Suits count.old.terms change.now }
     ensures { MatchResult result (λ made. RowChanged (sheet_of sheet.now) bank.old count.old.terms change.now row bank.new count.new.terms made) (λ e. Refused bank.old count.old.terms (terms_in (changed_row bank.old change.now (row_in (sheet_of sheet.now) bank.old row))) bank.new count.new.terms e) }
 {
-    let mut made = row;
-    let mut known: [Option<u16>; 512] = [None; 512];
+    let mut vector = row.vector;
+    let mut conditions = row.conditions;
+    let mut known = [None; MOST_TERMS];
     let readings = readings_of(sheet);
-    match rewrite_places(bank, count, change, &mut made.vector, readings, &mut known) {
-        Ok(()) => {}
-        Err(fault) => return Err(fault),
-    }
-    let used = made.used as usize;
-    match rewrite_conditions(bank, count, change, &mut made.conditions, used, &mut known) {
-        Ok(()) => Ok(made),
-        Err(fault) => Err(fault),
-    }
+    rewrite_places(bank, count, change, &mut vector[..readings], &mut known)?;
+    let used = row.used as usize;
+    rewrite_conditions(bank, count, change, &mut conditions[..used], &mut known)?;
+    Ok(RowRecord {
+        vector,
+        conditions,
+        ..row
+    })
 }
 
 /// One cut below the vector's term at `place`, which is too high.
@@ -126,12 +118,14 @@ fn cut_once(
     requires high { 0 < height (term_at bank.old place) }
     ensures { MatchResult result (λ next. CutMade (sheet_of sheet.now) bank.old count.old.terms row (term_at bank.old place) bank.new count.new.terms next) (λ e. CutRefused (sheet_of sheet.now) bank.old count.old.terms row (term_at bank.old place) bank.new count.new.terms e) }
 {
-    let old = way_down(bank, count.terms as usize, place);
+    let view = View {
+        records: bank,
+        count: *count,
+    };
+    let old = view.way_down(place);
     let names = names_of_row(sheet, bank, &row);
-    match lowest_free(names) {
-        None => Err(TableFault::NamesExhausted),
-        Some(name) => rewrite_row(sheet, bank, count, &Change::Replace(old, name), row),
-    }
+    let name = lowest_free(names).ok_or(TableFault::NamesExhausted)?;
+    rewrite_row(sheet, bank, count, &Change::Replace(old, name), row)
 }
 
 /// The row after all its cuts: no vector term is higher than `bound`.
@@ -147,17 +141,14 @@ pub(crate) fn cut(
 {
     let readings = readings_of(sheet);
     let mut made = row;
-    while let Some(place) = first_higher(
-        bank,
-        count.terms as usize,
-        &made.vector,
-        readings,
-        bound,
-    ) {
-        match cut_once(sheet, bank, count, made, place) {
-            Ok(next) => made = next,
-            Err(fault) => return Err(fault),
-        }
+    loop {
+        let view = View {
+            records: bank,
+            count: *count,
+        };
+        let Some(place) = view.first_higher(&made.vector[..readings], bound) else {
+            return Ok(made);
+        };
+        made = cut_once(sheet, bank, count, made, place)?;
     }
-    Ok(made)
 }

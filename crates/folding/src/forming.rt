@@ -3,7 +3,7 @@ ghost use Rattle.sheet.specs.View.{sheet_of};
 ghost use Rattle.folding.specs.Outcome.{FormBuilt, FormCovering};
 
 use crate::cutting::cut;
-use crate::trimming::trim_row;
+use crate::view::View;
 use fault::TableFault;
 use rows::{MOST_CANDIDATE_CONDITIONS, RowRecord, is_sound};
 use sheet::Sheet;
@@ -27,7 +27,14 @@ pub fn form(
     }
     let saved = count.terms;
     match cut(sheet, bank, count, height, *row) {
-        Ok(low) => Ok(trim_row(sheet, bank, count.terms as usize, height, low)),
+        Ok(low) => {
+            let view = View {
+                records: bank,
+                count: *count,
+            };
+            Ok(view.trim_row(sheet, height, low))
+        }
+        // No guard: the terms of a form stay, and only those of a refusal leave the bank.
         Err(fault) => {
             count.terms = saved;
             Err(fault)

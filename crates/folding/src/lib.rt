@@ -9,6 +9,7 @@ mod pairing;
 pub mod renaming;
 mod rewriting;
 mod trimming;
+mod view;
 
 pub use forming::form;
 pub use matching::takes;

@@ -3,89 +3,75 @@ ghost use Rattle.std.specs.Prelude.{◌≡◌, ℕ, ◌<◌, ◌≤◌, true, Li
 ghost use Rattle.std.specs.List.{AllByRecursion};
 ghost use Rattle.sheet.specs.View.{sheet_of};
 ghost use Rattle.terms.specs.Terms.{Entails, Term};
-ghost use Rattle.terms.specs.Bank.{Bank, Stays, literal_of};
+ghost use Rattle.terms.specs.Bank.{Stays, literal_of};
 ghost use Rattle.closure.specs.Labels.{Ready, literals};
 ghost use Rattle.forms.specs.Counted.{FitsVector};
 ghost use Rattle.forms.specs.Form.{is_named};
-ghost use Rattle.rows.specs.Records.{Between, Sound, row_in};
+ghost use Rattle.rows.specs.Records.{Between, Inside, row_in};
 ghost use Rattle.folding.specs.Dropping.{NamesIn};
 ghost use Rattle.folding.specs.Matched.{Comparable, MatchCovering, Matched, Weighable, Weighed, sends};
 
 use crate::change::Change;
-use crate::pairing::match_terms;
 use crate::renaming::Renaming;
 use crate::rewriting::rewrite_conditions;
-use crate::trimming::names_in;
+use crate::view::View;
 use closure::entails;
 use fault::TableFault;
 use rows::{MOST_CONDITIONS, RowRecord, bits_of, is_inside, is_sound, readings_of};
 use sheet::Sheet;
 use terms::{Condition, Count, CountGuard, MOST_TERMS, TermRecord};
 
-/// A renaming that makes the older row's vector the form's, where the bits are the same.
-fn fit_vector(
-    sheet: &Sheet,
-    bank: &[TermRecord],
-    terms: usize,
-    older: &RowRecord,
-    form: &RowRecord,
-) -> Option<Renaming>
-    requires older { Sound (sheet_of sheet.now) bank.now terms 16 older.now }
-    requires form { Sound (sheet_of sheet.now) bank.now terms 16 form.now }
-    ensures { MatchOption result ((f : ℕ → ℕ) → FitsVector f (row_in (sheet_of sheet.now) bank.now older.now) (row_in (sheet_of sheet.now) bank.now form.now) → ⊥) (λ found. FitsVector (sends found) (row_in (sheet_of sheet.now) bank.now older.now) (row_in (sheet_of sheet.now) bank.now form.now)) }
-{
-    let bits = bits_of(sheet);
-    if older.bits[..bits] != form.bits[..bits] {
-        return None;
-    }
-    let readings = readings_of(sheet);
-    match_terms(
-        bank,
-        terms,
-        &older.vector[..readings],
-        &form.vector[..readings],
-    )
-}
-
-/// Whether the given conditions entail the goal.
-fn is_entailed(
-    bank: &[TermRecord],
-    count: Count,
-    given: &[Condition],
-    goal: Condition,
-    labels: &mut [u16],
-) -> bool
-    requires ready { Ready bank.now count.terms (goal ∷ given.now) labels.old }
-    ensures { Decides result (Entails (literals bank.now given.now) (literal_of bank.now goal)) }
-{
-    match entails(bank, count, given, goal, labels) {
-        Ok(answer) => answer,
-        Err(_) => false,
-    }
-}
-
-/// Whether the given conditions entail each of the first `used` goals.
-fn are_entailed(
-    bank: &[TermRecord],
-    count: Count,
-    given: &[Condition],
-    goals: &[Condition],
-    used: usize,
-    labels: &mut [u16],
-) -> bool
-    requires bank { Bank bank.now count.terms }
-    requires labelled { 512 ≤ length labels.old }
-    requires given { Between count.terms given.now (length given.now) }
-    requires goals { Between count.terms goals.now used }
-    requires stored { used ≤ length goals.now }
-    ensures { Decides result (AllByRecursion (Entails (literals bank.now given.now)) (literals bank.now (take used goals.now))) }
-{
-    for k in 0..used {
-        if !is_entailed(bank, count, given, goals[k], labels) {
-            return false;
+impl View<'_> {
+    /// A renaming that makes the older row's vector the form's, where the bits are the same.
+    fn fit_vector(&self, sheet: &Sheet, older: &RowRecord, form: &RowRecord) -> Option<Renaming>
+        requires older { Inside (sheet_of sheet.now) self.now.count.terms 16 older.now }
+        requires form { Inside (sheet_of sheet.now) self.now.count.terms 16 form.now }
+        ensures { MatchOption result ((f : ℕ → ℕ) → FitsVector f (row_in (sheet_of sheet.now) self.now.records.now older.now) (row_in (sheet_of sheet.now) self.now.records.now form.now) → ⊥) (λ found. FitsVector (sends found) (row_in (sheet_of sheet.now) self.now.records.now older.now) (row_in (sheet_of sheet.now) self.now.records.now form.now)) }
+    {
+        let bits = bits_of(sheet);
+        if older.bits[..bits] != form.bits[..bits] {
+            return None;
         }
+        let readings = readings_of(sheet);
+        self.match_terms(&older.vector[..readings], &form.vector[..readings])
     }
-    true
+
+    /// Whether the given conditions entail the goal.
+    fn is_entailed(&self, given: &[Condition], goal: Condition, labels: &mut [u16]) -> bool
+        requires ready { Ready self.now.records.now self.now.count.terms (goal ∷ given.now) labels.old }
+        ensures { Decides result (Entails (literals self.now.records.now given.now) (literal_of self.now.records.now goal)) }
+    {
+        entails(self.records, self.count, given, goal, labels).unwrap_or(false)
+    }
+
+    /// Whether the given conditions entail each of the goals.
+    fn are_entailed(&self, given: &[Condition], goals: &[Condition], labels: &mut [u16]) -> bool
+        requires labelled { 512 ≤ length labels.old }
+        requires given { Between self.now.count.terms given.now (length given.now) }
+        requires goals { Between self.now.count.terms goals.now (length goals.now) }
+        ensures { Decides result (AllByRecursion (Entails (literals self.now.records.now given.now)) (literals self.now.records.now goals.now)) }
+    {
+        // A loop, since each question writes the labels.
+        for goal in goals {
+            if !self.is_entailed(given, *goal, labels) {
+                return false;
+            }
+        }
+        true
+    }
+
+    /// Whether the conditions have no name but `names`.
+    fn are_named(&self, names: u32, conditions: &[Condition]) -> bool
+        requires { Between self.now.count.terms conditions.now (length conditions.now) }
+        ensures { (vector : List Term) → NamesIn names vector → Decides result (AllByRecursion (λ c. is_named vector c ≡ true) (literals self.now.records.now conditions.now)) }
+    {
+        for condition in conditions {
+            if !self.is_named(names, *condition) {
+                return false;
+            }
+        }
+        true
+    }
 }
 
 /// Adds the older row's conditions, renamed, to the bank, and answers whether the form's entail them.
@@ -103,21 +89,15 @@ fn compare_conditions(
 {
     let change = Change::Rename(renaming.to);
     let mut known = [None; MOST_TERMS];
-    let mut renamed = *older;
+    let mut renamed = older.conditions;
     let used = older.used as usize;
-    match rewrite_conditions(
-        bank,
-        count,
-        &change,
-        &mut renamed.conditions,
-        used,
-        &mut known,
-    ) {
-        Ok(()) => {}
-        Err(fault) => return Err(fault),
-    }
+    rewrite_conditions(bank, count, &change, &mut renamed[..used], &mut known)?;
+    let view = View {
+        records: bank,
+        count: *count,
+    };
     let given = &form.conditions[..form.used as usize];
-    Ok(are_entailed(bank, *count, given, &renamed.conditions, used, labels))
+    Ok(view.are_entailed(given, &renamed[..used], labels))
 }
 
 /// Whether the form's conditions entail the older row's, renamed. These are working terms, and leave the bank again.
@@ -138,51 +118,19 @@ fn weigh_conditions(
     compare_conditions(bank, &mut *guard.count, renaming, older, form, labels)
 }
 
-/// Whether the condition has no name but `names`.
-fn is_named(bank: &[TermRecord], terms: usize, names: u32, condition: Condition) -> bool
-    requires bank { Bank bank.now terms }
-    requires left { condition.left < terms }
-    requires right { condition.right < terms }
-    ensures { (vector : List Term) → NamesIn names vector → result ≡ is_named vector (literal_of bank.now condition) }
-{
-    let left = bank[condition.left as usize].names;
-    let right = bank[condition.right as usize].names;
-    left | names == names && right | names == names
-}
-
-/// Whether the first `used` conditions have no name but `names`.
-fn are_named(
-    bank: &[TermRecord],
-    terms: usize,
-    names: u32,
-    conditions: &[Condition],
-    used: usize,
-) -> bool
-    requires bank { Bank bank.now terms }
-    requires stored { used ≤ length conditions.now }
-    requires between { Between terms conditions.now used }
-    ensures { (vector : List Term) → NamesIn names vector → Decides result (AllByRecursion (λ c. is_named vector c ≡ true) (literals bank.now (take used conditions.now))) }
-{
-    for k in 0..used {
-        if !is_named(bank, terms, names, conditions[k]) {
-            return false;
-        }
-    }
-    true
-}
-
 /// Whether memory holds two rows that can be compared, and has a label for each term.
 fn are_comparable(
     sheet: &Sheet,
     bank: &[TermRecord],
-    terms: usize,
+    count: Count,
     older: &RowRecord,
     form: &RowRecord,
     labels: &[u16],
 ) -> bool
-    ensures { Decides result (Comparable (sheet_of sheet.now) bank.now terms older.now form.now labels.now) }
+    ensures { Decides result (Comparable (sheet_of sheet.now) bank.now count.terms older.now form.now labels.now) }
 {
     let most = MOST_CONDITIONS as u8;
+    let terms = count.terms as usize;
     if labels.len() < MOST_TERMS {
         return false;
     }
@@ -192,8 +140,12 @@ fn are_comparable(
     if !is_inside(sheet, terms, most, form) {
         return false;
     }
-    let names = names_in(bank, terms, &older.vector, readings_of(sheet));
-    are_named(bank, terms, names, &older.conditions, older.used as usize)
+    let view = View {
+        records: bank,
+        count,
+    };
+    let names = view.names_in(&older.vector[..readings_of(sheet)]);
+    view.are_named(names, &older.conditions[..older.used as usize])
 }
 
 /// Whether some renaming of the older row's names makes it take the form. The labels are work memory; the bank's terms
@@ -211,20 +163,16 @@ pub fn takes(
     ensures count { count.new ≡ count.old }
     ensures stays { Stays count.old.terms bank.old bank.new }
 {
-    let terms = count.terms as usize;
-    if !are_comparable(sheet, bank, terms, older, form, labels) {
+    if !are_comparable(sheet, bank, *count, older, form, labels) {
         return Err(TableFault::BadMemory);
     }
-    let Some(renaming) = fit_vector(sheet, bank, terms, older, form) else {
+    let view = View {
+        records: bank,
+        count: *count,
+    };
+    let Some(renaming) = view.fit_vector(sheet, older, form) else {
         return Ok(None);
     };
-    let entailed = match weigh_conditions(bank, count, &renaming, older, form, labels) {
-        Ok(entailed) => entailed,
-        Err(fault) => return Err(fault),
-    };
-    if entailed {
-        Ok(Some(renaming))
-    } else {
-        Ok(None)
-    }
+    let entailed = weigh_conditions(bank, count, &renaming, older, form, labels)?;
+    Ok(entailed.then_some(renaming))
 }

@@ -1,20 +1,20 @@
 //! Terms of the bank changed throughout, by recursion on falling places. What a place became is remembered, so that
 //! each term is visited once, however often it is shared.
-ghost use Rattle.std.specs.Prelude.{◌≡◌, ℕ, ◌<◌, ◌≤◌, length, take, Some, MatchResult, slice_index, slice_index_or, slice_set};
+ghost use Rattle.std.specs.Prelude.{◌≡◌, ℕ, ◌<◌, ◌≤◌, length, MatchResult, slice_index};
 ghost use Rattle.terms.specs.Bank.{Bank, Fit, term_at, term_of};
 ghost use Rattle.folding.specs.Rewriting.{renamed_name, stopped, Suits, Known, Adding, Filing, Rewritten, PlacesChanged, ConditionsChanged, NoRoom, side_places};
-ghost use Rattle.closure.specs.Labels.{no_condition};
+ghost use Rattle.rows.specs.Records.{Between};
 
 use crate::change::Change;
 use fault::TableFault;
-use rows::at_or;
-use terms::{Condition, Count, Node, TermRecord, intern, same_node};
+use sheet::{recall, remember};
+use terms::{Condition, Count, Node, TermRecord, intern};
 
 fn renamed_name(to: &[u8], node: Node) -> Option<Node>
     ensures { result ≡ renamed_name to.now node }
 {
     match node {
-        Node::Name(x) => Some(Node::Name(at_or(to, x as usize, 0))),
+        Node::Name(x) => Some(Node::Name(to.get(x as usize).copied().unwrap_or(0))),
         _ => None,
     }
 }
@@ -24,23 +24,8 @@ fn stop(change: &Change, place: u16, node: Node) -> Option<Node>
     ensures { result ≡ stopped change.now place node }
 {
     match change {
-        Change::Replace(old, name) => {
-            if place == *old {
-                Some(Node::Name(*name))
-            } else {
-                None
-            }
-        }
+        Change::Replace(old, name) => (place == *old).then_some(Node::Name(*name)),
         Change::Rename(to) => renamed_name(to, node),
-    }
-}
-
-fn remember(known: &mut [Option<u16>], place: u16, became: u16)
-    ensures { known.new ≡ slice_set known.old place (Some became) }
-{
-    let i = place as usize;
-    if i < known.len() {
-        known[i] = Some(became);
     }
 }
 
@@ -57,8 +42,7 @@ fn add(
     requires fit { Fit count.old.terms node }
     ensures { Adding bank.old count.old.terms (term_of (term_at bank.old) node) bank.new count.new.terms result }
 {
-    let old = bank[place as usize].node;
-    if same_node(old, node) {
+    if bank[place as usize].node == node {
         return Ok(place);
     }
     intern(bank, count, node)
@@ -79,7 +63,7 @@ fn settle(
     ensures { Filing bank.old count.old.terms (term_of (term_at bank.old) node) place known.old bank.new count.new.terms known.new result }
 {
     let became = add(bank, count, place, node)?;
-    remember(known, place, became);
+    remember(known, place as usize, became);
     Ok(became)
 }
 
@@ -98,7 +82,7 @@ pub(crate) fn rewrite(
     requires known { Known bank.old count.old.terms change.now known.old }
     ensures { Rewritten bank.old count.old.terms change.now place bank.new count.new.terms known.new result }
 {
-    if let Some(became) = at_or(known, place as usize, None) {
+    if let Some(became) = recall(known, place as usize) {
         return Ok(became);
     }
     let node = bank[place as usize].node;
@@ -106,8 +90,7 @@ pub(crate) fn rewrite(
         return settle(bank, count, place, new, known);
     }
     match node {
-        Node::Name(_) => settle(bank, count, place, node, known),
-        Node::Constant(_) => settle(bank, count, place, node, known),
+        Node::Name(_) | Node::Constant(_) => settle(bank, count, place, node, known),
         Node::Unary(f, a) => {
             let a = rewrite(bank, count, change, a, known)?;
             settle(bank, count, place, Node::Unary(f, a), known)
@@ -126,61 +109,46 @@ pub(crate) fn rewrite(
     }
 }
 
-/// Changes the terms at the first `used` places.
+/// Changes the terms at these places.
 pub(crate) fn rewrite_places(
     bank: &mut [TermRecord],
     count: &mut Count,
     change: &Change,
     places: &mut [u16],
-    used: usize,
     known: &mut [Option<u16>],
 ) -> Result<(), TableFault>
     requires bank { Bank bank.old count.old.terms }
     requires long { 512 ≤ length bank.old }
     requires suits { Suits count.old.terms change.now }
-    requires room { used ≤ length places.old }
-    requires inside { (k : ℕ) → k < used → slice_index places.old k < count.old.terms }
+    requires inside { (k : ℕ) → k < length places.old → slice_index places.old k < count.old.terms }
     requires known { Known bank.old count.old.terms change.now known.old }
-    ensures { MatchResult result (λ _. PlacesChanged bank.old count.old.terms change.now used places.old places.new bank.new count.new.terms known.new) (λ e. NoRoom bank.old count.old.terms change.now (take used places.old) bank.new count.new.terms e) }
+    ensures { MatchResult result (λ _. PlacesChanged bank.old count.old.terms change.now places.old places.new bank.new count.new.terms known.new) (λ e. NoRoom bank.old count.old.terms change.now places.old bank.new count.new.terms e) }
 {
-    for k in 0..used {
-        match rewrite(bank, count, change, places[k], known) {
-            Ok(became) => places[k] = became,
-            Err(fault) => return Err(fault),
-        }
+    for place in places.iter_mut() {
+        *place = rewrite(bank, count, change, *place, known)?;
     }
     Ok(())
 }
 
-/// Changes the terms of the first `used` conditions.
+/// Changes the terms of these conditions.
 pub(crate) fn rewrite_conditions(
     bank: &mut [TermRecord],
     count: &mut Count,
     change: &Change,
     conditions: &mut [Condition],
-    used: usize,
     known: &mut [Option<u16>],
 ) -> Result<(), TableFault>
     requires bank { Bank bank.old count.old.terms }
     requires long { 512 ≤ length bank.old }
     requires suits { Suits count.old.terms change.now }
-    requires room { used ≤ length conditions.old }
-    requires lefts { (k : ℕ) → k < used → (slice_index_or conditions.old k no_condition).left < count.old.terms }
-    requires rights { (k : ℕ) → k < used → (slice_index_or conditions.old k no_condition).right < count.old.terms }
+    requires inside { Between count.old.terms conditions.old (length conditions.old) }
     requires known { Known bank.old count.old.terms change.now known.old }
-    ensures { MatchResult result (λ _. ConditionsChanged bank.old count.old.terms change.now used conditions.old conditions.new bank.new count.new.terms known.new) (λ e. NoRoom bank.old count.old.terms change.now (side_places (take used conditions.old)) bank.new count.new.terms e) }
+    ensures { MatchResult result (λ _. ConditionsChanged bank.old count.old.terms change.now conditions.old conditions.new bank.new count.new.terms known.new) (λ e. NoRoom bank.old count.old.terms change.now (side_places conditions.old) bank.new count.new.terms e) }
 {
-    for k in 0..used {
-        let condition = conditions[k];
-        let left = match rewrite(bank, count, change, condition.left, known) {
-            Ok(left) => left,
-            Err(fault) => return Err(fault),
-        };
-        let right = match rewrite(bank, count, change, condition.right, known) {
-            Ok(right) => right,
-            Err(fault) => return Err(fault),
-        };
-        conditions[k] = Condition {
+    for condition in conditions.iter_mut() {
+        let left = rewrite(bank, count, change, condition.left, known)?;
+        let right = rewrite(bank, count, change, condition.right, known)?;
+        *condition = Condition {
             left,
             right,
             sign: condition.sign,

@@ -1,54 +1,39 @@
-use Rattle.std.proofs.Common.{take, arith}
+use Rattle.std.proofs.Common.{◌≡◌, length, take, Decides, subst, ◌∙◌, arith}
+use Rattle.std.specs.List.{AllByRecursion as All}
+use Rattle.std.proofs.lemmas.List.{length-take-le}
+use Rattle.std.proofs.lemmas.Result.{err_from_is_err_and}
+use Rattle.terms.specs.Terms.{Entails}
 use Rattle.closure.specs.Labels.{literals}
 use Rattle.folding.specs.declared.change.Change.TheVariants.{Rename}
+use Rattle.folding.specs.Rewriting.{ConditionsChanged}
+use Rattle.folding.proofs.Entailed.{between_taken, front_taken}
 use Rattle.folding.proofs.RowPasses.{known_none}
-use Rattle.folding.proofs.Weighing.{weighed, unweighed, goals_between, given_between}
+use Rattle.folding.proofs.Weighing.{weighed, unweighed}
 use Rattle.folding.proofs.matching.compare_conditions.Goals as goal
 
-pub rewrite_conditions-requires : goal.rewrite_conditions-requires
-rewrite_conditions-requires c =
-    record {
-      bank = c.requires.bank;
-      long = c.requires.long;
-      suits = c.requires.names;
-      room = c.requires.stored;
-      lefts = c.requires.older.lefts;
-      rights = c.requires.older.rights;
-      known = known_none c.args.bank.now c.args.count.now.terms (Rename c.args.renaming.now.to) 512;
-    }
+pub rewrite_conditions-requires-clause-known : goal.rewrite_conditions-requires-clause-known
+rewrite_conditions-requires-clause-known c = known_none c.args.bank.now c.args.count.now.terms (Rename c.args.renaming.now.to) 512
 
-pub returns-in-Err : goal.returns-in-Err
-returns-in-Err c =
+pub returns-in_err-rewrite_conditions-clause-answer : goal.returns-in_err-rewrite_conditions-clause-answer
+returns-in_err-rewrite_conditions-clause-answer c =
     let rs = c.args.bank.now in
-    let h = c.in-Err.ensures in
-    record {
-      answer = unweighed rs c.args.count.now.terms c.args.renaming.now c.args.older.now.used c.args.older.now.conditions c.rewrite_conditions.new.bank c.rewrite_conditions.new.count.terms c.in-Err.fault h (literals rs (take c.args.form.now.used c.args.form.now.conditions));
-      stays = h.extends.stays;
-    }
+    let older = c.args.older.now in
+    let form = c.args.form.now in
+    let new = c.rewrite_conditions.new in
+    let p = err_from_is_err_and c.from_residual.result c.from_residual.ensures.1 in
+    rw (p.1, p.2)
+    (unweighed rs c.args.count.now.terms c.args.renaming.now (take older.used older.conditions) new.bank new.count.terms c.in_err-rewrite_conditions.field-0.0 c.in_err-rewrite_conditions.ensures (literals rs (take form.used form.conditions)))
 
-pub are_entailed-requires : goal.are_entailed-requires
-are_entailed-requires c =
-    let h = c.in-Ok.ensures in
-    let call = c.rewrite_conditions.new in
+pub returns-clause-answer : goal.returns-clause-answer
+returns-clause-answer c =
     let rs = c.args.bank.now in
     let n = c.args.count.now.terms in
     let older = c.args.older.now in
-    record {
-      bank = h.walked.gained.extends.bank;
-      labelled = c.requires.labelled;
-      given = given_between rs n c.args.renaming.now older.used older.conditions call.conditions call.bank call.count.terms call.known h c.args.form.now.conditions c.args.form.now.used c.requires.form;
-      goals = goals_between rs n c.args.renaming.now older.used older.conditions call.conditions call.bank call.count.terms call.known h;
-      stored = omega (arith, c.requires.stored, c.rewrite_conditions.auto.conditions);
-    }
-
-pub returns : goal.returns
-returns c =
-    let h = c.in-Ok.ensures in
-    let call = c.rewrite_conditions.new in
-    let rs = c.args.bank.now in
-    let n = c.args.count.now.terms in
-    let older = c.args.older.now in
-    record {
-      answer = weighed rs n c.args.renaming.now older.used older.conditions call.conditions call.bank call.count.terms call.known h c.requires.stored (omega (arith, c.requires.stored, c.rewrite_conditions.auto.conditions)) c.args.form.now.conditions c.args.form.now.used c.requires.given c.requires.form c.are_entailed.result c.are_entailed.ensures;
-      stays = h.walked.gained.extends.stays;
-    }
+    let form = c.args.form.now in
+    let new = c.rewrite_conditions.new in
+    let old = take older.used older.conditions in
+    let given = take form.used form.conditions in
+    let h : ConditionsChanged rs n (Rename c.args.renaming.now.to) old new.conditions new.bank new.count.terms new.known = c.in_ok-rewrite_conditions.ensures in
+    let same : length new.conditions ≡ length old = c.rewrite_conditions.auto.conditions in
+    weighed rs n c.args.renaming.now old new.conditions new.bank new.count.terms new.known h same given (between_taken n n form.conditions form.used (omega arith) c.requires.form) c.are_entailed.result
+    (subst (λ cs. Decides c.are_entailed.result (All (Entails (literals new.bank given)) (literals new.bank cs))) (front_taken older.used new.conditions _ (same ∙ length-take-le older.used older.conditions c.requires.stored)) c.are_entailed.ensures)

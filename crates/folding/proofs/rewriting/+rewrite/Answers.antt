@@ -1,4 +1,4 @@
-use Rattle.std.proofs.Common.{◌≡◌, ℕ, ◌<◌, ◌≤◌, List, [], ◌∷◌, sym, ap, ◌∙◌, subst, arith}
+use Rattle.std.proofs.Common.{◌≡◌, ℕ, ◌<◌, ◌≤◌, ◌⊎◌, inl, inr, List, [], ◌∷◌, sym, ap, ◌∙◌, subst, arith}
 use Rattle.terms.specs.declared.TermRecord.{TermRecord}
 use Rattle.terms.specs.Terms.{Term, unary, binary, ternary}
 use Rattle.terms.specs.declared.Node.{Node}
@@ -11,7 +11,7 @@ use Rattle.folding.proofs.rewriting.+rewrite.Goals as goal
 
 pub returns-in-Some : goal.returns-in-Some
 returns-in-Some t c =
-    let k = c.requires.known c.args.place c.in-Some.became (sym c.at_or.ensures ∙ c.in-Some.is) in
+    let k = c.requires.known c.args.place c.in-Some.became (sym c.recall.ensures ∙ c.in-Some.is) in
     (record { gained = gained_held c.args.bank.now c.args.count.now.terms _ c.requires.bank (c.in-Some.became, k.1, k.2); inside = k.1; is = k.2 }, c.requires.known)
 
 pub returns-in-Some-stop : goal.returns-in-Some-stop
@@ -23,11 +23,9 @@ returns-in-Some-stop t c =
     let s = stopped_some rs n c.requires.bank c.args.place c.requires.inside ch c.requires.suits new (sym c.in-Some-stop.ensures) n (term_at rs) in
     settled rs n ch c.requires.suits [] c.args.place c.requires.inside (λ all h. tt) rs n c.args.known.now (walked_none rs n ch c.requires.suits c.requires.bank c.args.known.now c.requires.known) new s.1 c.settle.new.bank c.settle.new.count.terms c.settle.new.known c.settle.result c.settle.ensures
 
-leaf-Name : (f g : ℕ → Term) (node : Node) (x : ℕ) → node ≡ Name x → term_of f node ≡ term_of g node
-leaf-Name f g node x is = ap (term_of f) is ∙ ap (term_of g) (sym is)
-
-leaf-Constant : (f g : ℕ → Term) (node : Node) (x : ℕ) → node ≡ Constant x → term_of f node ≡ term_of g node
-leaf-Constant f g node x is = ap (term_of f) is ∙ ap (term_of g) (sym is)
+leaf : (f g : ℕ → Term) (node : Node) → ((x : ℕ) × (node ≡ Name x)) ⊎ ((x : ℕ) × (node ≡ Constant x)) → term_of f node ≡ term_of g node
+leaf f g node (inl is) = ap (term_of f) is.1 ∙ ap (term_of g) (sym is.1)
+leaf f g node (inr is) = ap (term_of f) is.1 ∙ ap (term_of g) (sym is.1)
 
 below : (a p n : ℕ) → a < p → p < n → a < n
 below a p n x y = omega arith
@@ -243,15 +241,4 @@ returns-in-Name t c =
     let ch = c.args.change.now in
     let p = c.args.place in
     let is = stopped_none rs n c.requires.bank p c.requires.inside ch c.requires.suits (sym c.in_default-stop.ensures) in
-    let at : term_of (term_at rs) (node_at rs p) ≡ term_of (arg rs ch) (node_at rs p) = leaf-Name (term_at rs) (arg rs ch) (node_at rs p) _ c.in-Name.is in
-    settled rs n ch c.requires.suits [] p c.requires.inside (λ all h. tt) rs n c.args.known.now (walked_none rs n ch c.requires.suits c.requires.bank c.args.known.now c.requires.known) (node_at rs p) (at ∙ sym is) c.settle-in-Name.new.bank c.settle-in-Name.new.count.terms c.settle-in-Name.new.known c.settle-in-Name.result c.settle-in-Name.ensures
-
-pub returns-in-Constant : goal.returns-in-Constant
-returns-in-Constant t c =
-    let rs = c.args.bank.now in
-    let n = c.args.count.now.terms in
-    let ch = c.args.change.now in
-    let p = c.args.place in
-    let is = stopped_none rs n c.requires.bank p c.requires.inside ch c.requires.suits (sym c.in_default-stop.ensures) in
-    let at : term_of (term_at rs) (node_at rs p) ≡ term_of (arg rs ch) (node_at rs p) = leaf-Constant (term_at rs) (arg rs ch) (node_at rs p) _ c.in-Constant.is in
-    settled rs n ch c.requires.suits [] p c.requires.inside (λ all h. tt) rs n c.args.known.now (walked_none rs n ch c.requires.suits c.requires.bank c.args.known.now c.requires.known) (node_at rs p) (at ∙ sym is) c.settle-in-Constant.new.bank c.settle-in-Constant.new.count.terms c.settle-in-Constant.new.known c.settle-in-Constant.result c.settle-in-Constant.ensures
+    settled rs n ch c.requires.suits [] p c.requires.inside (λ all h. tt) rs n c.args.known.now (walked_none rs n ch c.requires.suits c.requires.bank c.args.known.now c.requires.known) (node_at rs p) (leaf (term_at rs) (arg rs ch) (node_at rs p) c.in-Name.is ∙ sym is) c.settle-in-Name.new.bank c.settle-in-Name.new.count.terms c.settle-in-Name.new.known c.settle-in-Name.result c.settle-in-Name.ensures
