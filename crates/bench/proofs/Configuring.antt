@@ -1,13 +1,12 @@
 -- One configuration: its start, its judgement and the step from it.
-use Rattle.std.proofs.Common.{◌≡◌, ℕ, ◌<◌, ◌≤◌, Bool, true, false, not, ◌&&◌, eqb, ltb, leb, List, [], map, length, get_or, sym, refl, ap, ◌∙◌, ap₂, arith, ltb-true, leb-true}
-use lib.ListN.{length-map}
+use Rattle.std.proofs.Common.{◌≡◌, ℕ, ◌<◌, ◌≤◌, Bool, true, false, not, ◌&&◌, eqb, ltb, leb, List, [], length, get_or, sym, refl, ap, ◌∙◌, ap₂, arith, ltb-true, leb-true}
 use Rattle.sheet.specs.declared.syntax.Bit.{Bit}
 use Rattle.sheet.specs.declared.syntax.Equation.{Equation}
 use Rattle.sheet.specs.declared.syntax.Reading.{Reading}
 use Rattle.sheet.specs.declared.syntax.Record.{Record}
 use Rattle.sheet.specs.Lawful.{Few}
 use Rattle.sheet.specs.Rules.{obeys_at, contains_input, input_at, term_infos}
-use Rattle.sheet.specs.Runs.{Configuration, start, start_bit, start_reading, or_kept, numbered, step, step_values, step_truths, step_chosen, next_bit, next_reading}
+use Rattle.sheet.specs.Runs.{Configuration, or_kept, numbered, step, step_values, step_truths, step_chosen, next_bit, next_reading}
 use Rattle.sheet.specs.System.{System}
 use Rattle.sheet.specs.Truth.{Meaning, term_value, term_values, equal, answers, truth_of, truths, term_of_choice, chosen}
 use Rattle.sheet.proofs.Eaches.{left_true, right_true}

@@ -1,5 +1,5 @@
 -- The values of terms, pass by pass.
-use Rattle.std.proofs.Common.{◌≡◌, ℕ, suc, ◌+◌, ◌-◌, ◌<◌, ◌≤◌, Bool, true, false, ◌||◌, eqb, ltb, List, [], ◌∷◌, map, length, get_or, take, set, vec_items, sym, refl, ap, ◌∙◌, ap₂, ⊎_elim, arith, length-set, length-take}
+use Rattle.std.proofs.Common.{◌≡◌, ℕ, suc, ◌+◌, ◌<◌, ◌≤◌, Bool, true, false, ◌||◌, eqb, ltb, List, [], ◌∷◌, map, length, get_or, take, set, vec_items, sym, refl, ap, ◌∙◌, ap₂, ⊎_elim, arith, length-set, length-take}
 use mathlib.Core.Bool.{beq, Bool-set}
 use mathlib.Core.Logic.{∥∥₁_elim}
 use lib.ListN.{length-map}

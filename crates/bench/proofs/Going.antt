@@ -1,9 +1,9 @@
 -- A run, configuration by configuration.
-use Rattle.std.proofs.Common.{◌≡◌, ℕ, suc, ◌+◌, ◌*◌, ◌<◌, ◌≤◌, Bool, true, false, eqb, List, length, Some, None, sym, ap, ◌∙◌, ap₂, subst, ⊎_elim, mul-le-mul_right, add-mul, one-mul, add-one, arith, below_more, leb-true}
+use Rattle.std.proofs.Common.{◌≡◌, ℕ, suc, ◌+◌, ◌<◌, ◌≤◌, Bool, true, false, eqb, List, length, Some, None, sym, ap, ◌∙◌, ap₂, subst, ⊎_elim, add-one, arith, below_more, leb-true}
 use mathlib.Core.Bool.{Bool-set}
 use mathlib.Core.Logic.{∥∥₁_elim}
 use Rattle.std.proofs.lemmas.Bool.Decides.{eqb_tells}
-use Rattle.sheet.specs.Runs.{Configuration, start, step, inputs_of, after, invariant_holds}
+use Rattle.sheet.specs.Runs.{Configuration, step, inputs_of, after, invariant_holds}
 use Rattle.sheet.specs.Lawful.{Lawful}
 use Rattle.sheet.specs.System.{System}
 use Rattle.sheet.specs.Truth.{Meaning}
@@ -15,17 +15,7 @@ pub record Reached (m : Meaning) (s : System) (starts inputs : List ℕ) (i : �
   pub here : Holds place (after m s starts inputs i)
   pub before : (j : ℕ) → j < i → invariant_holds m s (after m s starts inputs j) ≡ true
 
--- the inputs of a step are there
-pub part_fits : (i n each total : ℕ) → i < n → total ≡ n * each → i * each + each ≤ total
-part_fits i n each total h e =
-    let a : (i + 1) * each ≤ n * each = mul-le-mul_right {m = i + 1} {n = n} each (omega arith) in
-    let b : (i + 1) * each ≡ i * each + each = add-mul i 1 each ∙ ap (λ x. i * each + x) (one-mul each) in
-    omega arith
-
 module _ (m : Meaning) (s : System) (starts inputs : List ℕ) where
-  pub reached_start : (place : Place) → Holds place (start m s starts) → Reached m s starts inputs 0 place
-  reached_start place h = record { here = h; before = λ j l. absurd (omega arith) }
-
   -- a judgement by the same meaning, which leaves the place as it was
   module _ (i : ℕ) (place now : Place) (r : Bool) (f : Meaning) (at : Reached m s starts inputs i place) (same : now ≡ place) (kept : f ≡ m) (judge : (c : Configuration) → Holds place c → r ≡ invariant_holds f s c) where
     judged : r ≡ invariant_holds m s (after m s starts inputs i)

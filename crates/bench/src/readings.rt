@@ -28,6 +28,7 @@ pub(crate) fn start_readings<M: Model>(sheet: &Sheet, model: &mut M, starts: &[u
 {
     let readings = sheet.parts.readings.as_slice();
     let mut out = [0; 6];
+    // A loop, since every turn may ask the model, and the order of its turns is promised.
     for (k, slot) in out.iter_mut().enumerate() {
         *slot = match readings.get(k) {
             Some(reading) => start_value(model, reading.start, starts),

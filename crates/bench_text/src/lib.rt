@@ -141,6 +141,7 @@ fn failure_line(heap: Global, failure: Failure) -> Result<String, AllocError>
 {
     match failure {
         Failure::Fault(fault) => fault_line(heap, fault),
+        // The failure carries no error of the allocator that could be passed on.
         Failure::Memory => Err(AllocError),
     }
 }
@@ -171,6 +172,7 @@ pub fn bench_report(heap: Global, sheet: &[u8], run: &[u8]) -> Result<String, Al
     match run_file::read(heap, run) {
         Ok(said) => whole_text(heap, sheet, &said),
         Err(ReadFailure::Line(error)) => format!(in heap; "{error}\n"),
+        // The same as in `failure_line`.
         Err(ReadFailure::Memory) => Err(AllocError),
     }
 }

@@ -1,4 +1,4 @@
-use Rattle.std.proofs.Common.{◌≡◌, ◌≤◌, ℕ, List, ◌++◌, length, take, vec_items, sym, ap, ◌∙◌, ap₂, rules, arith}
+use Rattle.std.proofs.Common.{◌≡◌, ℕ, List, ◌++◌, length, take, vec_items, sym, ap, ◌∙◌, ap₂, rules, arith}
 use Rattle.std.proofs.lemmas.List.{length-take-le}
 use Rattle.sheet.specs.View.{sheet_of}
 use Rattle.sheet.proofs.Fewness.{few_bits}

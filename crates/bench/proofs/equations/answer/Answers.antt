@@ -1,4 +1,4 @@
-use Rattle.std.proofs.Common.{false, map, sym, rules}
+use Rattle.std.proofs.Common.{false, sym, rules}
 use lib.ListN.{length-map}
 use Rattle.sheet.specs.Truth.{equal, answers}
 use Rattle.sheet.proofs.Arrays.{begins}

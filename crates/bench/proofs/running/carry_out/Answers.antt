@@ -1,4 +1,4 @@
-use Rattle.std.proofs.Common.{◌≡◌, refl, ◌∙◌, arith}
+use Rattle.std.proofs.Common.{refl, ◌∙◌, arith}
 use Rattle.sheet.specs.View.{sheet_of}
 use Rattle.bench.proofs.Going.{reached_next, ran_break, ran_none}
 use Rattle.bench.proofs.running.carry_out.Goals as goal
