@@ -8,7 +8,7 @@ grow-push step seen [] x = refl
 grow-push step seen (y ∷ ys) x = grow-push step (seen ++ step seen y ∷ []) ys x
 
 -- entries that store with each node what it comes to, and one more
-pub informed_push : {E N V : Type 0} (node : E → N) (info : E → V) (step : List V → N → V) (es es' : List E) (e : E) → map info es ≡ grow step [] (map node es) → info e ≡ step (map info es) (node e) → es' ≡ es ++ e ∷ [] → map info es' ≡ grow step [] (map node es')
+informed_push : {E N V : Type 0} (node : E → N) (info : E → V) (step : List V → N → V) (es es' : List E) (e : E) → map info es ≡ grow step [] (map node es) → info e ≡ step (map info es) (node e) → es' ≡ es ++ e ∷ [] → map info es' ≡ grow step [] (map node es')
 informed_push node info step es es' e known new is =
     let a : map info es' ≡ map info es ++ info e ∷ [] = ap (map info) is ∙ map_push info es e in
     let b : map node es' ≡ map node es ++ node e ∷ [] = ap (map node) is ∙ map_push node es e in
@@ -19,9 +19,6 @@ informed_push node info step es es' e known new is =
 pub informed_tried : {E N V : Type 0} (node : E → N) (info : E → V) (step : List V → N → V) (added : Bool) (es es' : List E) (e : E) → map info es ≡ grow step [] (map node es) → info e ≡ step (map info es) (node e) → es' ≡ cond added (es ++ e ∷ []) es → map info es' ≡ grow step [] (map node es')
 informed_tried node info step true es es' e known new is = informed_push node info step es es' e known new is
 informed_tried node info step false es es' e known new is = rw is known
-
-pub nodes_push : {E N : Type 0} (node : E → N) (es es' : List E) (e : E) → es' ≡ es ++ e ∷ [] → map node es' ≡ map node es ++ node e ∷ []
-nodes_push node es es' e is = ap (map node) is ∙ map_push node es e
 
 pub grow-length : {N V : Type 0} (step : List V → N → V) (seen : List V) (xs : List N) → length (grow step seen xs) ≡ length seen + length xs
 grow-length step seen [] = sym (add-zero (length seen))

@@ -1,5 +1,5 @@
 -- Values that are worked out once.
-use Rattle.std.proofs.Common.{◌≡◌, ℕ, zero, suc, ◌+◌, ◌<◌, ◌≤◌, Bool, true, false, cond, eqb, ltb, ◌⊎◌, List, [], map, length, get_or, take, set, replicate, Some, None, Option, sym, refl, ap, ◌∙◌, ap₂, inl, inr, ⊎_elim, arith, length-take, below_more}
+use Rattle.std.proofs.Common.{◌≡◌, ℕ, zero, suc, ◌+◌, ◌<◌, ◌≤◌, Bool, true, false, cond, eqb, ltb, ◌⊎◌, List, [], map, length, get_or, take, set, replicate, Some, None, Option, sym, refl, ap, ◌∙◌, ap₂, inl, inr, ⊎_elim, arith, length-take}
 use lib.ListN.{length-map}
 use Rattle.std.proofs.lemmas.List.{get_or-set_same, get_or-set_other, get_or_past, get_or-take, get_or-map, set_past}
 use Rattle.std.proofs.lemmas.Bool.Decides.{nat_tests, eqb_tells, leb_tells}
@@ -128,11 +128,6 @@ nones (suc n) (suc k) = nones n k
 
 pub remembers_none : {V : Type 0} (d : V) (values : List V) (n : ℕ) → Remembers d values (replicate n None)
 remembers_none d _ n k v e = absurd (none_some (sym (nones n k) ∙ e))
-
--- one value more of a list that is filled in
-pub filled_more : {V : Type 0} (d : V) (out values : List V) (n : ℕ) (v : V) → n < length out → v ≡ get_or values n d → ((k : ℕ) → k < n → get_or out k d ≡ get_or values k d) → (k : ℕ) → k < n + 1 → get_or (set out n v) k d ≡ get_or values k d
-filled_more d out values n v inside is done =
-    below_more (λ k. get_or (set out n v) k d ≡ get_or values k d) n (λ k h. get_or-set_other out n k v d (λ e. omega arith) ∙ done k h) (get_or-set_same out n v d inside ∙ is)
 
 pub truths-length : (bits questions claims : List Bool) (entries : List FormulaEntry) → length entries ≡ length (truths bits questions claims (map formula_in entries))
 truths-length bits questions claims entries = omega (arith, grow-length (truth_of bits questions claims) [] (map formula_in entries), length-map entries formula_in)

@@ -111,7 +111,8 @@ impl<'a> Truths<'a> {
     }
 }
 
-// The terms of the choices that are known already, by the truth of the formulas.
+// The terms of the choices that are known already, by the truth of the formulas. Apart from `Truths`,
+// since a formula asks for both its operands, and a choice only for the one that is taken.
 #[derive(Drop)]
 struct Terms<'a> {
     choices: &'a [Choice],

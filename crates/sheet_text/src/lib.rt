@@ -76,6 +76,7 @@ pub fn listing(heap: Global, bytes: &[u8]) -> Result<String, AllocError>
     match outcome {
         Ok(_) => whole_listing(heap, bytes, records.as_slice()),
         Err(Failure::Fault(fault)) => faulty_listing(heap, bytes, records.as_slice(), fault),
+        // Want of memory has no value to pass on.
         Err(Failure::Memory) => Err(AllocError),
     }
 }
