@@ -68,10 +68,6 @@ tabled_found rs l heads next i k lt is tabled j less =
     (λ h. let z : j ≡ i = omega arith in let t = tabled k lt in (t.0, omega (arith, t.1), t.2 ∙ (is ∙ ap (sig rs l) (sym z)), t.3))
     (cases_lt j i)
 
-pub chains_weaker : (heads next : List (Option ℕ)) (i : ℕ) → Chains heads next i → Chains heads next (i + 1)
-chains_weaker heads next i chains =
-    record { begin = λ b. under_more i (i + 1) (get_or heads b None) (omega arith) (chains.begin b); down = chains.down }
-
 -- one place more, whose signature and label one of the places before has
 pub closed_found : (rs : List TermRecord) (l : List ℕ) (i k : ℕ) → k < i → sig rs l k ≡ sig rs l i → label l k ≡ label l i → Closed rs i l → Closed rs (i + 1) l
 closed_found rs l i k lt is one closed a b p q e =

@@ -15,9 +15,6 @@ use Rattle.closure.specs.Pending.{DueOne, Due, Added}
 use Rattle.closure.proofs.Theory.{congruent_sigs}
 use Rattle.closure.proofs.Merging.{join_facts}
 
-pub added_none : (rs : List TermRecord) (n : ℕ) (l : List ℕ) (es : List Equation) → Added rs n l es es
-added_none rs n l es = ([], sym (append-nil es), tt)
-
 pub added_more : (rs : List TermRecord) (n : ℕ) (l : List ℕ) (es es' es'' : List Equation) → Added rs n l es es' → Added rs n l es' es'' → Added rs n l es es''
 added_more rs n l es es' es'' a b =
     (a.0 ++ b.0, b.1 ∙ (ap (λ u. u ++ b.0) a.1 ∙ append_assoc es a.0 b.0), All-append (DueOne rs n l) a.0 b.0 a.2 b.2)

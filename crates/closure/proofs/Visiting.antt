@@ -1,11 +1,11 @@
 -- One place looked up: where its signature is found its class is joined, and where it is not the table has it.
-use Rattle.std.proofs.Common.{◌≡◌, ℕ, ◌+◌, ◌<◌, ◌≤◌, Bool, true, false, List, length, get_or, set, Some, None, Option, sym, refl, ap, ◌∙◌, subst, add-zero, arith}
+use Rattle.std.proofs.Common.{◌≡◌, ℕ, ◌+◌, ◌<◌, ◌≤◌, Bool, true, false, List, length, get_or, set, Some, None, Option, sym, ap, ◌∙◌, subst, add-zero, arith}
 use Rattle.std.proofs.lemmas.Bool.{true≢false}
 use Rattle.terms.specs.declared.TermRecord.{TermRecord}
 use Rattle.terms.specs.Bank.{Ordered}
 use Rattle.closure.specs.Working.{sig, Rooted, Joined, Grown, Swept, bucket_of, Reaches, Chains, flag}
 use Rattle.closure.proofs.Theory.{congruent_sigs}
-use Rattle.closure.proofs.Merging.{grown_join, grown_none, grown_more, classes_few}
+use Rattle.closure.proofs.Merging.{grown_join, grown_none, classes_few}
 use Rattle.closure.proofs.Chaining.{tabled_found, tabled_more, closed_found, closed_new, new_signature}
 
 module _ (rs : List TermRecord) (n : ℕ) (o : Ordered rs n) (i j : ℕ) (i_in : i < n) (j_in : j < i) (l l' : List ℕ) (rooted : Rooted n l) (is : sig rs l j ≡ sig rs l i) where
@@ -29,14 +29,6 @@ flagged_yes r j j' is e = e ∙ ap (λ b. j + flag b) (sym is)
 
 pub flagged_no : (r : Bool) (j j' : ℕ) → r ≡ false → j' ≡ j → j' ≡ j + flag r
 flagged_no r j j' is e = e ∙ (sym (add-zero j) ∙ ap (λ b. j + flag b) (sym is))
-
--- no join so far and none now
-pub none_flagged : (r : Bool) (j j' : ℕ) → j' ≡ j + flag r → j' ≡ 0 → (r ≡ false) × (j ≡ 0)
-none_flagged true j j' e z = absurd (omega arith)
-none_flagged false j j' e z = (refl, omega arith)
-
-pub grown_flagged : (rs : List TermRecord) (n : ℕ) (l l' l'' : List ℕ) (j j' : ℕ) (r : Bool) → j' ≡ j + flag r → Grown rs n l l' j → Grown rs n l' l'' (flag r) → Grown rs n l l'' j'
-grown_flagged rs n l l' l'' j j' r e g h = subst (Grown rs n l l'') (sym e) (grown_more rs n l l' l'' j (flag r) g h)
 
 -- joins are few: each takes a class away
 pub joins_few : (rs : List TermRecord) (n : ℕ) (l l' : List ℕ) (j : ℕ) → Grown rs n l l' j → j ≤ n

@@ -24,7 +24,8 @@ fn relabel(labels: &mut [u16], high: u16, low: u16)
     }
 }
 
-/// Joins the classes of two places; false where they are one already.
+/// Joins the classes of two places; false where they are one already. The count of terms stands beside the labels, since
+/// a caller may lend more labels.
 pub(crate) fn join(labels: &mut [u16], terms: usize, a: usize, b: usize) -> bool
     requires inside { terms ≤ length labels.old }
     requires left { a < terms }

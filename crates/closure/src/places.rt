@@ -6,7 +6,7 @@ ghost use Rattle.closure.specs.Props.{Ordered-prop};
 
 use terms::{MOST_TERMS, Node, TermRecord, is_ordered};
 
-/// The first `terms` places of a bank.
+/// The first `terms` places of a bank, which is lent with its count beside.
 #[derive(Drop)]
 pub(crate) struct Places<'a> {
     pub(crate) bank: &'a [TermRecord],

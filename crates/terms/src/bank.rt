@@ -69,6 +69,7 @@ fn measured(bank: &[TermRecord], node: Node) -> TermRecord
     }
 }
 
+/// Interning in any memory, by nodes. Apart from `intern`, whose clause on terms follows from this one.
 fn file(bank: &mut [TermRecord], count: &mut Count, node: Node) -> Result<u16, TableFault>
     ensures { Filed bank.old count.old.terms node bank.new count.new.terms result }
 {
