@@ -1,6 +1,6 @@
 -- What is built over a sound row is its candidate.
 use Rattle.std.proofs.Common.{◌≡◌, ℕ, ◌<◌, ◌≤◌, Bool, false, List, map, length, get_or, take, replicate, None, Ok, Err, Option, Result, sym, refl, subst, arith, length-take}
-use mathlib.Core.Path.{fun_ext}
+use Rattle.std.proofs.Math.Path.{fun_ext}
 use Rattle.std.proofs.lemmas.List.{get_or-take}
 use Rattle.fault.specs.declared.TableFault.{TableFault}
 use Rattle.sheet.specs.declared.syntax.Reading.{Reading}

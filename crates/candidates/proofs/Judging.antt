@@ -1,5 +1,5 @@
 -- The conditions of a case of the claims, and what trying the cases comes to.
-use Rattle.std.proofs.Common.{◌≡◌, ℕ, zero, suc, ◌+◌, ◌-◌, ◌*◌, ◌%◌, ◌^◌, ◌<◌, ◌≤◌, Bool, true, false, not, List, [], ◌++◌, length, get_or, take, Decides, MatchBool, sym, refl, ap, ◌∙◌, subst, ap₂, ⊎_elim, arith}
+use Rattle.std.proofs.Common.{◌≡◌, ℕ, ◌+◌, ◌-◌, ◌<◌, ◌≤◌, Bool, true, false, not, List, [], ◌++◌, length, get_or, take, Decides, MatchBool, sym, refl, ap, ◌∙◌, subst, ap₂, ⊎_elim, arith}
 use Rattle.std.proofs.lemmas.List.{length-append, length-take-le, get_or-take, get_or_append_left, get_or-append-add}
 use Rattle.std.proofs.lemmas.Bool.{cases_lt, true≢false}
 use Rattle.sheet.specs.Runs.{or_kept}
@@ -82,15 +82,6 @@ module _ (s : System) (form : Row) (rs : List TermRecord) (n : ℕ) (cs : List C
   pub case_tried : invariant_in s form b ≡ false → (impossible : Bool) → MatchBool impossible (Sat (literals rs (take used cs')) → ⊥) (Sat (literals rs (take used cs'))) → Decides (not impossible) (Breaks s form b)
   case_tried broken true never = ((λ e. absurd (true≢false (sym e))), λ p. absurd (never (subst Sat (sym case_literals) p.1)))
   case_tried broken false some = ((λ _. (broken, subst Sat case_literals some)), λ _. refl)
-
--- as many cases as the claims have
-pub shifted : (k : ℕ) → k ≤ 4 → (1 * 2 ^ k) % 256 ≡ 2 ^ k
-shifted zero le = refl
-shifted (suc zero) le = refl
-shifted (suc (suc zero)) le = refl
-shifted (suc (suc (suc zero))) le = refl
-shifted (suc (suc (suc (suc zero)))) le = refl
-shifted (suc (suc (suc (suc (suc k))))) le = absurd (omega arith)
 
 pub invariant-at : (s : System) (form : Row) (b : ℕ) (bits answers : List Bool) → form.bits ≡ bits → answers ≡ branch_answers (length s.claims) b → invariant_in s form b ≡ or_kept (λ f. get_or (truths bits [] answers s.formulas) f false) true s.invariant
 invariant-at s form b bits answers is is' = ap₂ (λ xs ys. or_kept (λ f. get_or (truths xs [] ys s.formulas) f false) true s.invariant) is (sym is')

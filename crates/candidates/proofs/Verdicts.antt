@@ -1,9 +1,7 @@
 -- What trying the cases says of the form.
-use Rattle.std.proofs.Common.{◌≡◌, ℕ, ◌≤◌, Bool, true, false, List, length, take, Ok, Err, Result, refl, ◌∙◌, inr}
-use mathlib.Core.Bool.{Bool-set}
-use mathlib.Core.Logic.{∥∥₁_elim}
+use Rattle.std.proofs.Common.{◌≡◌, ℕ, Bool, true, false, List, length, take, Ok, Err, Result, refl, ◌∙◌, inr}
 use Rattle.std.proofs.lemmas.List.{length-map, length-take-le}
-use Rattle.std.proofs.lemmas.Bool.{true≢false, false≢true, leb-true}
+use Rattle.std.proofs.lemmas.Bool.{true≢false, false≢true}
 use Rattle.fault.specs.declared.TableFault.{TableFault}
 use Rattle.sheet.specs.Lawful.{Lawful}
 use Rattle.sheet.specs.System.{System}
@@ -21,29 +19,16 @@ use Rattle.candidates.specs.Cases.{Unbroken}
 use Rattle.candidates.specs.Judged.{Judgeable, Verdict, Judged}
 use Rattle.candidates.specs.Outcome.{Kept}
 use Rattle.candidates.proofs.Answering.{kept_back}
+use Rattle.candidates.proofs.Lawfully.{lawful_sheet}
 
--- a sheet's rules are equations of truth values, so that one knows each of them
 module _ (s : System) (lawful : ∥ Lawful s ∥₁) where
-  of : (x : Bool) → (Lawful s → x ≡ true) → x ≡ true
-  of x f = ∥∥₁_elim lawful (Bool-set x true) f
-
-  pub lawful_sheet : Lawful s
-  lawful_sheet =
-      record {
-        few = record { bits = of _ (λ l. l.few.bits); symbols = of _ (λ l. l.few.symbols); readings = of _ (λ l. l.few.readings); inputs = of _ (λ l. l.few.inputs); terms = of _ (λ l. l.few.terms); questions = of _ (λ l. l.few.questions); claims = of _ (λ l. l.few.claims); formulas = of _ (λ l. l.few.formulas); choices = of _ (λ l. l.few.choices) };
-        each = record { symbols = of _ (λ l. l.each.symbols); readings = of _ (λ l. l.each.readings); terms = of _ (λ l. l.each.terms); questions = of _ (λ l. l.each.questions); claims = of _ (λ l. l.each.claims); formulas = of _ (λ l. l.each.formulas); choices = of _ (λ l. l.each.choices); next_bits = of _ (λ l. l.each.next_bits); next_readings = of _ (λ l. l.each.next_readings); invariant = of _ (λ l. l.each.invariant); bound = of _ (λ l. l.each.bound) };
-      }
-
-  pub few_claims : length s.claims ≤ 4
-  few_claims = leb-true (length s.claims) 4 lawful_sheet.few.claims
-
   module _ (rs : List TermRecord) (n : ℕ) (form : RowRecord) where
     abbrev row : Row
     row = row_in s rs form
 
     decided : Sound s rs n 16 form → Decided s row
     decided sound =
-        safety_by_cases s lawful_sheet row (length-map (take (length s.readings) form.vector) (term_at rs) ∙ length-take-le (length s.readings) form.vector sound.row.readings)
+        safety_by_cases s (lawful_sheet s lawful) row (length-map (take (length s.readings) form.vector) (term_at rs) ∙ length-take-le (length s.readings) form.vector sound.row.readings)
 
     verdict : Decided s row → (safe : Bool) → Unbroken s row safe → Verdict s row safe
     verdict d true never = record { decided = ((λ _. d.safe never), λ _. refl); shown = λ e. absurd (true≢false e) }

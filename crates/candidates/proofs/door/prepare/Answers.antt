@@ -1,5 +1,5 @@
 use Rattle.std.proofs.Common.{sym}
-use mathlib.Core.Path.{fun_ext}
+use Rattle.std.proofs.Math.Path.{fun_ext}
 use Rattle.sheet.specs.View.{sheet_of}
 use Rattle.candidates.proofs.Lawfully.{few_inputs}
 use Rattle.candidates.proofs.Answering.{prepared}

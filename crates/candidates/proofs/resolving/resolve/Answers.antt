@@ -1,5 +1,5 @@
 use Rattle.std.proofs.Common.{◌≡◌, ℕ, Bool, false, [], get_or, ap, ◌∙◌, arith}
-use mathlib.Core.Path.{fun_ext}
+use Rattle.std.proofs.Math.Path.{fun_ext}
 use Rattle.sheet.specs.Truth.{truth_of, truths, term_of_choice, chosen}
 use Rattle.sheet.specs.View.{sheet_of}
 use Rattle.sheet.proofs.Growing.{grow-length}

@@ -1,6 +1,5 @@
 use Rattle.std.proofs.Common.{◌≡◌, ◌<◌, [], map, length, get_or, take, sym, refl, ◌∙◌, subst, arith}
-use lib.ListN.{length-map}
-use Rattle.std.proofs.lemmas.List.{get_or-map, length-set, take_all}
+use Rattle.std.proofs.lemmas.List.{length-map, get_or-map, length-set, take_all}
 use Rattle.sheet.specs.System.{no_reading}
 use Rattle.banks.specs.Gains.{Gained}
 use Rattle.forms.specs.Rows.{start_of}
