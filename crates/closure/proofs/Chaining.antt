@@ -14,8 +14,8 @@ pub reached_next : (next : List (Option ℕ)) (k j : ℕ) → Reaches next (Some
 reached_next next k j r other = ⊎_elim (λ e. absurd (other e)) (λ s. s) (reached next k (Some k) j refl r)
 
 nothing : (next : List (Option ℕ)) (p : Option ℕ) (j : ℕ) → p ≡ None → Reaches next p j → ⊥
-nothing next p j e (here i) = let z : ◌≡◌ {A = ℕ} 0 1 = cc in omega (arith, z)
-nothing next p j e (there i r) = let z : ◌≡◌ {A = ℕ} 0 1 = cc in omega (arith, z)
+nothing next p j e (here i) = cc
+nothing next p j e (there i r) = cc
 
 pub none_reached : (next : List (Option ℕ)) (j : ℕ) → Reaches next None j → ⊥
 none_reached next j = nothing next None j refl

@@ -29,13 +29,12 @@ added_push rs n l o e p q is Q es es' (Ok u) h =
 added_push rs n l o e p q is Q es es' (Err back) h = ([], h.1 ∙ sym (append-nil es), tt)
 
 -- what is due of some labels is due of those that they grew from
-due_before : (rs : List TermRecord) (seen n : ℕ) (l l' : List ℕ) (j : ℕ) → seen ≤ n → Grown rs n l l' j → (e : Equation) → DueOne rs seen l' e → DueOne rs n l e
-due_before rs seen n l l' j le g e d =
-    (omega (arith, d.0), omega (arith, d.1), λ cs forced. d.2 cs (λ i lt. g.forced cs forced i (omega arith)))
+due_before : (rs : List TermRecord) (n : ℕ) (l l' : List ℕ) (j : ℕ) → Grown rs n l l' j → (e : Equation) → DueOne rs n l' e → DueOne rs n l e
+due_before rs n l l' j g e d = (d.0, d.1, λ cs forced. d.2 cs (g.forced cs forced))
 
-pub due_more : (rs : List TermRecord) (seen n : ℕ) (l l' : List ℕ) (j : ℕ) (es es' : List Equation) → seen ≤ n → Grown rs n l l' j → Due rs n l es → Added rs seen l' es es' → Due rs n l es'
-due_more rs seen n l l' j es es' le g due added =
-    subst (Due rs n l) (sym added.1) (All-append (DueOne rs n l) es added.0 due (All-weaker (DueOne rs seen l') (DueOne rs n l) (due_before rs seen n l l' j le g) added.0 added.2))
+pub due_more : (rs : List TermRecord) (n : ℕ) (l l' : List ℕ) (j : ℕ) (es es' : List Equation) → Grown rs n l l' j → Due rs n l es → Added rs n l' es es' → Due rs n l es'
+due_more rs n l l' j es es' g due added =
+    subst (Due rs n l) (sym added.1) (All-append (DueOne rs n l) es added.0 due (All-weaker (DueOne rs n l') (DueOne rs n l) (due_before rs n l l' j g) added.0 added.2))
 
 -- a join by an equation that is due
 pub grown_due : (rs : List TermRecord) (n : ℕ) (l l' l'' : List ℕ) (j : ℕ) (e : Equation) (r : Bool) → Grown rs n l l' j → DueOne rs n l e → Joined n e.left e.right l' l'' r → Grown rs n l l'' (j + flag r)

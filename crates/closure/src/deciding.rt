@@ -1,14 +1,14 @@
 //! Deciding conditions by the labels of the smallest congruence with their equations.
-ghost use Rattle.std.specs.Prelude.{◌≡◌, ℕ, ◌+◌, ◌<◌, ◌≤◌, ◌∷◌, length, Decides, slice_index_or};
-ghost use Rattle.terms.specs.declared.Sign.TheVariants.{Different};
-ghost use Rattle.terms.specs.Bank.{Ordered};
-ghost use Rattle.closure.specs.Labels.{no_condition, label, classes, Ready, Decided, Concluded};
+ghost use Rattle.std.specs.Prelude.{◌≡◌, ℕ, ◌+◌, ◌<◌, ◌≤◌, ◌∷◌, length, Decides, MatchResult, slice_index_or};
+ghost use Rattle.fault.specs.declared.TableFault.TheVariants.{BadMemory};
+ghost use Rattle.closure.specs.Labels.{no_condition, classes, Ready, Decided, Concluded};
 ghost use Rattle.closure.specs.Working.{Assumed, Settled, Broken, Spare, negated};
 
 use super::labels::{join, start};
+use super::places::Places;
 use super::table::saturate;
 use fault::TableFault;
-use terms::{Condition, Count, MOST_TERMS, Sign, TermRecord, is_ordered};
+use terms::{Condition, Count, Sign, TermRecord};
 
 /// Takes a condition in: an equation joins its places. Answers whether two classes became one.
 fn assume(labels: &mut [u16], terms: usize, condition: Condition) -> bool
@@ -28,96 +28,86 @@ fn assume(labels: &mut [u16], terms: usize, condition: Condition) -> bool
     }
 }
 
-/// The labels of the smallest congruence with the conditions' equations; answers how often two classes became one.
-fn close(bank: &[TermRecord], terms: usize, conditions: &[Condition], labels: &mut [u16]) -> u16
-    requires ordered { Ordered bank.now terms }
-    requires few { terms ≤ 512 }
-    requires labelled { terms ≤ length labels.old }
-    requires lefts { (k : ℕ) → k < length conditions.now → (slice_index_or conditions.now k no_condition).left < terms }
-    requires rights { (k : ℕ) → k < length conditions.now → (slice_index_or conditions.now k no_condition).right < terms }
-    ensures settled { Settled bank.now terms conditions.now labels.new }
-    ensures counted { result + classes terms labels.new ≡ terms }
-    ensures spare { Spare terms labels.old labels.new }
-{
-    start(labels, terms);
-    let mut joins = 0;
-    for condition in conditions {
-        if assume(labels, terms, *condition) {
-            joins += 1;
+/// Conditions between terms.
+#[derive(Drop)]
+struct Question<'a> {
+    places: Places<'a>,
+    conditions: &'a [Condition],
+    ghost lefts: { (k : ℕ) → k < length conditions.now → (slice_index_or conditions.now k no_condition).left < places.terms },
+    ghost rights: { (k : ℕ) → k < length conditions.now → (slice_index_or conditions.now k no_condition).right < places.terms },
+}
+
+impl<'a> Question<'a> {
+    /// Refuses memory that does not hold the terms with a label for each, and conditions that are not between them.
+    fn new(
+        bank: &'a [TermRecord],
+        count: Count,
+        conditions: &'a [Condition],
+        labels: &[u16],
+    ) -> Result<Self, TableFault>
+        ensures { MatchResult result (λ q. Ready bank.now count.terms conditions.now labels.now × (q.places.bank.now ≡ bank.now) × (q.places.terms ≡ count.terms) × (q.conditions.now ≡ conditions.now)) (λ e. (e ≡ BadMemory) × (Ready bank.now count.terms conditions.now labels.now → ⊥)) }
+    {
+        let terms = count.terms;
+        let places = Places::new(bank, terms as usize).ok_or(TableFault::BadMemory)?;
+        if terms as usize > labels.len()
+            || !conditions.iter().all(|condition| condition.left < terms
+                && condition.right < terms)
+        {
+            return Err(TableFault::BadMemory);
         }
+        Ok(Question { places, conditions })
     }
-    joins + saturate(bank, terms, labels)
-}
 
-/// Whether a disequation stands between places of one label.
-fn is_broken(conditions: &[Condition], labels: &[u16]) -> bool
-    requires lefts { (k : ℕ) → k < length conditions.now → (slice_index_or conditions.now k no_condition).left < length labels.now }
-    requires rights { (k : ℕ) → k < length conditions.now → (slice_index_or conditions.now k no_condition).right < length labels.now }
-    ensures { Decides result (Broken conditions.now labels.now) }
-{
-    for condition in conditions {
-        if is_broken_one(*condition, labels) {
-            return true;
+    /// The labels of the smallest congruence with the conditions' equations; answers how often two classes became
+    /// one.
+    fn close(&self, labels: &mut [u16]) -> u16
+        requires { self.now.places.terms ≤ length labels.old }
+        ensures settled { Settled self.now.places.bank.now self.now.places.terms self.now.conditions.now labels.new }
+        ensures counted { result + classes self.now.places.terms labels.new ≡ self.now.places.terms }
+        ensures spare { Spare self.now.places.terms labels.old labels.new }
+    {
+        let places = &self.places;
+        start(labels, places.terms);
+        let mut joins = 0;
+        for condition in self.conditions {
+            if assume(labels, places.terms, *condition) {
+                joins += 1;
+            }
         }
+        joins + saturate(places, labels)
     }
-    false
-}
 
-fn is_broken_one(condition: Condition, labels: &[u16]) -> bool
-    requires left { condition.left < length labels.now }
-    requires right { condition.right < length labels.now }
-    ensures { Decides result ((condition.sign ≡ Different) × (label labels.now condition.left ≡ label labels.now condition.right)) }
-{
-    match condition.sign {
-        Sign::Equal => false,
-        Sign::Different => labels[condition.left as usize] == labels[condition.right as usize],
+    /// Whether a disequation stands between places of one label.
+    fn is_broken(&self, labels: &[u16]) -> bool
+        requires { self.now.places.terms ≤ length labels.now }
+        ensures { Decides result (Broken self.now.conditions.now labels.now) }
+    {
+        self.conditions.iter().any(|condition| {
+            condition.sign == Sign::Different
+                && labels[condition.left as usize] == labels[condition.right as usize]
+        })
     }
-}
 
-/// Whether the memory holds `terms` terms with a label for each, and the conditions are between them.
-fn is_ready(bank: &[TermRecord], terms: usize, conditions: &[Condition], labels: &[u16]) -> bool
-    ensures { Decides result (Ready bank.now terms conditions.now labels.now) }
-{
-    if terms > MOST_TERMS || terms > labels.len() || !is_ordered(bank, terms) {
-        return false;
-    }
-    for condition in conditions {
-        if condition.left as usize >= terms || condition.right as usize >= terms {
-            return false;
-        }
-    }
-    true
-}
-
-/// Whether the conditions leave the goal no way out: closes the conditions with the goal negated, and answers whether
-/// a disequation is broken then.
-fn is_forced(
-    bank: &[TermRecord],
-    terms: usize,
-    conditions: &[Condition],
-    goal: Condition,
-    labels: &mut [u16],
-) -> bool
-    requires ordered { Ordered bank.now terms }
-    requires few { terms ≤ 512 }
-    requires labelled { terms ≤ length labels.old }
-    requires lefts { (k : ℕ) → k < length conditions.now → (slice_index_or conditions.now k no_condition).left < terms }
-    requires rights { (k : ℕ) → k < length conditions.now → (slice_index_or conditions.now k no_condition).right < terms }
-    requires left { goal.left < terms }
-    requires right { goal.right < terms }
-    ensures settled { Settled bank.now terms (negated goal ∷ conditions.now) labels.new }
-    ensures broken { Decides result (Broken (negated goal ∷ conditions.now) labels.new) }
-    ensures spare { Spare terms labels.old labels.new }
-{
-    let left = goal.left as usize;
-    let right = goal.right as usize;
-    let _ = close(bank, terms, conditions, labels);
-    match goal.sign {
-        Sign::Equal => labels[left] == labels[right] || is_broken(conditions, labels),
-        Sign::Different => {
-            join(labels, terms, left, right);
-            let _ = saturate(bank, terms, labels);
-            is_broken(conditions, labels)
+    /// Whether the conditions leave the goal no way out: closes the conditions with the goal negated, and answers
+    /// whether a disequation is broken then.
+    fn is_forced(&self, goal: Condition, labels: &mut [u16]) -> bool
+        requires labelled { self.now.places.terms ≤ length labels.old }
+        requires left { goal.left < self.now.places.terms }
+        requires right { goal.right < self.now.places.terms }
+        ensures settled { Settled self.now.places.bank.now self.now.places.terms (negated goal ∷ self.now.conditions.now) labels.new }
+        ensures broken { Decides result (Broken (negated goal ∷ self.now.conditions.now) labels.new) }
+        ensures spare { Spare self.now.places.terms labels.old labels.new }
+    {
+        let left = goal.left as usize;
+        let right = goal.right as usize;
+        let _ = self.close(labels);
+        match goal.sign {
+            Sign::Equal => labels[left] == labels[right] || self.is_broken(labels),
+            Sign::Different => {
+                join(labels, self.places.terms, left, right);
+                let _ = saturate(&self.places, labels);
+                self.is_broken(labels)
+            }
         }
     }
 }
@@ -139,12 +129,9 @@ pub fn decide(
 ) -> Result<Verdict, TableFault>
     ensures { Decided bank.now count.terms conditions.now labels.old labels.new result }
 {
-    let terms = count.terms as usize;
-    if !is_ready(bank, terms, conditions, labels) {
-        return Err(TableFault::BadMemory);
-    }
-    let joins = close(bank, terms, conditions, labels);
-    let impossible = is_broken(conditions, labels);
+    let question = Question::new(bank, count, conditions, labels)?;
+    let joins = question.close(labels);
+    let impossible = question.is_broken(labels);
     Ok(Verdict { impossible, joins })
 }
 
@@ -158,12 +145,9 @@ pub fn entails(
 ) -> Result<bool, TableFault>
     ensures { Concluded bank.now count.terms conditions.now goal labels.old labels.new result }
 {
-    let terms = count.terms as usize;
+    let question = Question::new(bank, count, conditions, labels)?;
     if goal.left >= count.terms || goal.right >= count.terms {
         return Err(TableFault::BadMemory);
     }
-    if !is_ready(bank, terms, conditions, labels) {
-        return Err(TableFault::BadMemory);
-    }
-    Ok(is_forced(bank, terms, conditions, goal, labels))
+    Ok(question.is_forced(goal, labels))
 }

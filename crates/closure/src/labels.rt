@@ -1,7 +1,7 @@
 //! Labels: places of one class have one label, the lowest place of the class.
 ghost use Rattle.std.specs.Prelude.{◌≡◌, ℕ, ◌<◌, ◌≤◌, length};
 ghost use Rattle.closure.specs.Labels.{label};
-ghost use Rattle.closure.specs.Working.{Spare, Merged, Joined};
+ghost use Rattle.closure.specs.Working.{merge, Spare, Joined};
 
 /// Each of the first `terms` places in a class of its own.
 pub(crate) fn start(labels: &mut [u16], terms: usize)
@@ -10,19 +10,17 @@ pub(crate) fn start(labels: &mut [u16], terms: usize)
     ensures own { (k : ℕ) → k < terms → label labels.new k ≡ k }
     ensures spare { Spare terms labels.old labels.new }
 {
-    for i in 0..terms {
-        labels[i] = i as u16;
+    for (i, label) in labels[..terms].iter_mut().enumerate() {
+        *label = i as u16;
     }
 }
 
 /// Label `low` in place of `high`, wherever it stands. Each place is written, so that the pass runs over many at once.
-fn relabel(labels: &mut [u16], terms: usize, high: u16, low: u16)
-    requires { terms ≤ length labels.old }
-    ensures { Merged terms low high labels.old labels.new }
+fn relabel(labels: &mut [u16], high: u16, low: u16)
+    ensures { (k : ℕ) → k < length labels.old → label labels.new k ≡ merge low high (label labels.old k) }
 {
-    for i in 0..terms {
-        let old = labels[i];
-        labels[i] = if old == high { low } else { old };
+    for label in labels.iter_mut() {
+        *label = if *label == high { low } else { *label };
     }
 }
 
@@ -38,6 +36,6 @@ pub(crate) fn join(labels: &mut [u16], terms: usize, a: usize, b: usize) -> bool
     if x == y {
         return false;
     }
-    relabel(labels, terms, x.max(y), x.min(y));
+    relabel(&mut labels[..terms], x.max(y), x.min(y));
     true
 }

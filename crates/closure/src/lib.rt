@@ -6,6 +6,7 @@
 mod deciding;
 mod labels;
 mod pending;
+mod places;
 mod table;
 
 pub use deciding::{Verdict, decide, entails};

@@ -1,15 +1,15 @@
 //! Pending equations: what a join makes equal among the places that a pass has left behind. The lists of uses only
 //! say where to look, so no proof rests on them: a pass that finds nothing to join ends the closure.
-ghost use Rattle.std.specs.Prelude.{◌≡◌, ℕ, ◌<◌, ◌≤◌, false, [], length};
-ghost use Rattle.terms.specs.Bank.{Ordered};
+ghost use Rattle.std.specs.Prelude.{◌≡◌, ℕ, ◌<◌, ◌≤◌, false, length};
 ghost use Rattle.queue.specs.Entries.{entries, room};
-ghost use Rattle.closure.specs.Working.{Rooted, Joined, Grown, Chains};
-ghost use Rattle.closure.specs.Pending.{Due, Added};
+ghost use Rattle.closure.specs.Working.{Rooted, Joined, Grown};
+ghost use Rattle.closure.specs.Pending.{Added};
 
 use super::labels::join;
-use super::table::{bucket, lookup, signature};
+use super::places::Places;
+use super::table::Table;
 use queue::Queue;
-use terms::{Node, TermRecord};
+use terms::{MOST_TERMS, Node};
 
 /// Two places that are to be joined.
 #[derive(Clone, Copy)]
@@ -20,85 +20,99 @@ pub(crate) struct Equation {
 
 impl Equation {
     /// What a slot holds before it is used.
-    pub(crate) fn none() -> Self {
-        Equation { left: 0, right: 0 }
-    }
+    const BLANK: Equation = Equation { left: 0, right: 0 };
 }
 
 /// Most uses of one place.
 const ARGUMENTS: usize = 3;
 
-/// Notes on the list of an argument's label that a term uses it: three uses for each place.
-fn link(
-    labels: &[u16],
-    uses: &mut [Option<u16>],
-    more: &mut [Option<u16>],
-    argument: u16,
-    user: usize,
-) {
-    let argument = argument as usize;
-    if argument < labels.len() && user < more.len() && user < 65536 {
-        let label = labels[argument] as usize;
-        if label < uses.len() {
-            more[user] = uses[label];
-            uses[label] = Some(user as u16);
-        }
-    }
+const MOST_USES: usize = ARGUMENTS * MOST_TERMS;
+
+/// Lists for each label of the terms that use a place of it, three uses for each place. They are links in arrays, since
+/// closure allocates nothing.
+#[derive(Drop)]
+pub(crate) struct Uses {
+    first: [Option<u16>; MOST_TERMS],
+    more: [Option<u16>; MOST_USES],
 }
 
-/// Lists for each label the terms that use a place of it.
-pub(crate) fn list_uses(
-    bank: &[TermRecord],
-    terms: usize,
-    labels: &[u16],
-    uses: &mut [Option<u16>],
-    more: &mut [Option<u16>],
-)
-    requires inside { terms ≤ length bank.now }
-    requires few { terms ≤ 512 }
-{
-    for i in 0..terms {
-        let first = i * ARGUMENTS;
-        match bank[i].node {
-            Node::Name(_) => {}
-            Node::Constant(_) => {}
-            Node::Unary(_, a) => link(labels, uses, more, a, first),
-            Node::Binary(_, a, b) => {
-                link(labels, uses, more, a, first);
-                link(labels, uses, more, b, first + 1);
-            }
-            Node::Ternary(_, a, b, c) => {
-                link(labels, uses, more, a, first);
-                link(labels, uses, more, b, first + 1);
-                link(labels, uses, more, c, first + 2);
+impl Uses {
+    pub(crate) fn new(places: &Places, labels: &[u16]) -> Self {
+        let mut uses = Uses {
+            first: [None; MOST_TERMS],
+            more: [None; MOST_USES],
+        };
+        for (i, record) in places.bank[..places.terms].iter().enumerate() {
+            uses.note(labels, record.node, i * ARGUMENTS);
+        }
+        uses
+    }
+
+    /// Notes the uses of the places that a node names, from the use `from` on.
+    fn note(&mut self, labels: &[u16], node: Node, from: usize)
+        requires { from < 1536 }
+    {
+        for (k, argument) in arguments(node).iter().enumerate() {
+            if let Some(argument) = argument {
+                self.link(labels, *argument, from + k);
             }
         }
     }
+
+    fn link(&mut self, labels: &[u16], argument: u16, entry: usize) {
+        let Some(label) = labels.get(argument as usize) else {
+            return;
+        };
+        let label = *label as usize;
+        if label < MOST_TERMS && entry < MOST_USES {
+            self.more[entry] = self.first[label];
+            self.first[label] = Some(entry as u16);
+        }
+    }
+
+    /// Moves the first use of a label over to another label; answers the place that uses it.
+    fn hand_over(&mut self, gone: usize, heir: usize) -> Option<usize> {
+        if gone >= MOST_TERMS || heir >= MOST_TERMS {
+            return None;
+        }
+        let entry = self.first[gone]?;
+        let here = entry as usize;
+        if here >= MOST_USES {
+            return None;
+        }
+        self.first[gone] = self.more[here];
+        self.more[here] = self.first[heir];
+        self.first[heir] = Some(entry);
+        Some(here / ARGUMENTS)
+    }
 }
 
-/// Looks a place below `seen` up anew: a place of the same signature and another label makes an equation.
+/// The places that a node names.
+fn arguments(node: Node) -> [Option<u16>; ARGUMENTS] {
+    match node {
+        Node::Name(_) | Node::Constant(_) => [None, None, None],
+        Node::Unary(_, a) => [Some(a), None, None],
+        Node::Binary(_, a, b) => [Some(a), Some(b), None],
+        Node::Ternary(_, a, b, c) => [Some(a), Some(b), Some(c)],
+    }
+}
+
+/// Looks a place on the table up anew: a place of the same signature and another label makes an equation.
 fn revisit(
-    bank: &[TermRecord],
-    seen: usize,
+    places: &Places,
+    table: &Table,
     labels: &[u16],
-    heads: &[Option<u16>],
-    next: &[Option<u16>],
     user: usize,
     pending: &mut Queue<Equation>,
 )
-    requires ordered { Ordered bank.now seen }
-    requires few { seen ≤ 512 }
-    requires labelled { seen ≤ length labels.now }
-    requires buckets { length heads.now ≡ 1024 }
-    requires links { length next.now ≡ 512 }
-    requires inside { user < seen }
-    requires chains { Chains heads.now next.now seen }
-    ensures added { Added bank.now seen labels.now (entries pending.old) (entries pending.new) }
+    requires inside { table.now.seen ≤ places.now.terms }
+    requires labelled { places.now.terms ≤ length labels.now }
+    requires user { user < table.now.seen }
+    ensures added { Added places.now.bank.now places.now.terms labels.now (entries pending.old) (entries pending.new) }
     ensures roomy { room pending.new ≡ room pending.old }
 {
-    let sought = signature(bank[user].node, labels);
-    let first = heads[bucket(sought)];
-    if let Some(j) = lookup(bank, seen, labels, next, first, sought) {
+    let sought = places.signature(user, labels);
+    if let Some(j) = table.lookup(places, labels, sought) {
         if labels[user] != labels[j] {
             let _ = pending.push(Equation {
                 left: user as u16,
@@ -108,128 +122,85 @@ fn revisit(
     }
 }
 
-/// Looks up anew the places below `seen` that use the label `gone`, and hands their uses over to the label that took
+/// Looks up anew the places on the table that use the label `gone`, and hands their uses over to the label that took
 /// its place.
 fn revisit_users(
-    bank: &[TermRecord],
-    seen: usize,
+    places: &Places,
+    table: &Table,
     labels: &[u16],
-    heads: &[Option<u16>],
-    next: &[Option<u16>],
-    uses: &mut [Option<u16>],
-    more: &mut [Option<u16>],
+    uses: &mut Uses,
     gone: u16,
     pending: &mut Queue<Equation>,
 )
-    requires ordered { Ordered bank.now seen }
-    requires few { seen ≤ 512 }
-    requires labelled { seen ≤ length labels.now }
-    requires buckets { length heads.now ≡ 1024 }
-    requires links { length next.now ≡ 512 }
-    requires chains { Chains heads.now next.now seen }
-    ensures added { Added bank.now seen labels.now (entries pending.old) (entries pending.new) }
+    requires inside { table.now.seen ≤ places.now.terms }
+    requires labelled { places.now.terms ≤ length labels.now }
+    ensures added { Added places.now.bank.now places.now.terms labels.now (entries pending.old) (entries pending.new) }
     ensures roomy { room pending.new ≡ room pending.old }
 {
     let gone = gone as usize;
-    if gone >= uses.len() || gone >= labels.len() {
+    let Some(heir) = labels.get(gone).copied() else {
         return;
-    }
-    let heir = labels[gone] as usize;
-    if heir >= uses.len() {
-        return;
-    }
-    let mut at = uses[gone];
-    uses[gone] = None;
-    for _ in 0..more.len() {
-        let Some(entry) = at else {
+    };
+    // Bounded by all uses, since no proof says that a list has an end.
+    for _ in 0..MOST_USES {
+        let Some(user) = uses.hand_over(gone, heir as usize) else {
             return;
         };
-        let here = entry as usize;
-        if here >= more.len() {
-            return;
-        }
-        at = more[here];
-        more[here] = uses[heir];
-        uses[heir] = Some(entry);
-        let user = here / ARGUMENTS;
-        if user < seen {
-            revisit(bank, seen, labels, heads, next, user, pending);
+        if user < table.seen {
+            revisit(places, table, labels, user, pending);
         }
     }
 }
 
-/// Joins the places of an equation, and finds what that makes equal below `seen`. Answers whether two classes became
+/// Joins the places of an equation, and finds what that makes equal on the table. Answers whether two classes became
 /// one.
 fn settle(
-    bank: &[TermRecord],
-    terms: usize,
-    seen: usize,
+    places: &Places,
+    table: &Table,
     labels: &mut [u16],
-    heads: &[Option<u16>],
-    next: &[Option<u16>],
-    uses: &mut [Option<u16>],
-    more: &mut [Option<u16>],
+    uses: &mut Uses,
     equation: Equation,
     pending: &mut Queue<Equation>,
 ) -> bool
-    requires ordered { Ordered bank.now terms }
-    requires few { terms ≤ 512 }
-    requires labelled { terms ≤ length labels.old }
-    requires buckets { length heads.now ≡ 1024 }
-    requires links { length next.now ≡ 512 }
-    requires inside { seen ≤ terms }
-    requires chains { Chains heads.now next.now seen }
-    requires left { equation.left < terms }
-    requires right { equation.right < terms }
-    ensures joined { Joined terms equation.left equation.right labels.old labels.new result }
-    ensures added { Added bank.now seen labels.new (entries pending.old) (entries pending.new) }
+    requires inside { table.now.seen ≤ places.now.terms }
+    requires labelled { places.now.terms ≤ length labels.old }
+    requires left { equation.left < places.now.terms }
+    requires right { equation.right < places.now.terms }
+    ensures joined { Joined places.now.terms equation.left equation.right labels.old labels.new result }
+    ensures added { Added places.now.bank.now places.now.terms labels.new (entries pending.old) (entries pending.new) }
     ensures quiet { result ≡ false → entries pending.new ≡ entries pending.old }
     ensures roomy { room pending.new ≡ room pending.old }
 {
     let left = equation.left as usize;
     let right = equation.right as usize;
     let gone = labels[left].max(labels[right]);
-    if !join(labels, terms, left, right) {
+    if !join(labels, places.terms, left, right) {
         return false;
     }
-    revisit_users(bank, seen, labels, heads, next, uses, more, gone, pending);
+    revisit_users(places, table, labels, uses, gone, pending);
     true
 }
 
-/// After a join that did away with the label `gone`: joins what that makes equal below `seen`, and what follows from
+/// After a join that did away with the label `gone`: joins what that makes equal on the table, and what follows from
 /// it, first in first out. Answers how often two classes became one.
 pub(crate) fn propagate(
-    bank: &[TermRecord],
-    terms: usize,
-    seen: usize,
+    places: &Places,
+    table: &Table,
     labels: &mut [u16],
-    heads: &[Option<u16>],
-    next: &[Option<u16>],
-    uses: &mut [Option<u16>],
-    more: &mut [Option<u16>],
+    uses: &mut Uses,
     gone: u16,
-    pending: &mut Queue<Equation>,
 ) -> u16
-    requires ordered { Ordered bank.now terms }
-    requires few { terms ≤ 512 }
-    requires labelled { terms ≤ length labels.old }
-    requires buckets { length heads.now ≡ 1024 }
-    requires links { length next.now ≡ 512 }
-    requires inside { seen ≤ terms }
-    requires chains { Chains heads.now next.now seen }
-    requires rooted { Rooted terms labels.old }
-    requires empty { entries pending.old ≡ [] }
-    requires short { room pending.old ≡ 64 }
-    ensures grown { Grown bank.now terms labels.old labels.new result }
-    ensures empty { entries pending.new ≡ [] }
-    ensures roomy { room pending.new ≡ 64 }
+    requires inside { table.now.seen ≤ places.now.terms }
+    requires labelled { places.now.terms ≤ length labels.old }
+    requires rooted { Rooted places.now.terms labels.old }
+    ensures { Grown places.now.bank.now places.now.terms labels.old labels.new result }
 {
-    revisit_users(bank, seen, labels, heads, next, uses, more, gone, pending);
+    let mut slots = [Equation::BLANK; 64];
+    let mut pending = Queue::new(&mut slots);
+    revisit_users(places, table, labels, uses, gone, &mut pending);
     let mut joins = 0;
     while let Some(equation) = pending.pop() {
-        if settle(
-            bank, terms, seen, labels, heads, next, uses, more, equation, pending,
-        ) {
+        if settle(places, table, labels, uses, equation, &mut pending) {
             joins += 1;
         }
     }

@@ -1,35 +1,14 @@
 //! The table of signatures: chains of places by the bucket of their signature.
-ghost use Rattle.std.specs.Prelude.{◌≡◌, ℕ, ◌+◌, ◌<◌, ◌≤◌, false, [], length, is_some, None, MatchOption, ◌≢◌, slice_index_or};
-ghost use Rattle.queue.specs.Entries.{entries, room};
-ghost use Rattle.terms.specs.Bank.{Fit, Ordered, relabel};
-ghost use Rattle.closure.specs.Labels.{label};
-ghost use Rattle.closure.specs.Working.{sig, Closed, bucket_of, Reaches, Under, Chains, Rooted, Grown, Swept, flag};
+ghost use Rattle.std.specs.Prelude.{◌≡◌, ℕ, ◌+◌, ◌<◌, ◌≤◌, false, length, is_some, None, MatchOption, ◌≢◌, slice_index_or};
+ghost use Rattle.closure.specs.Working.{sig, Closed, bucket_of, Reaches, Chains, Rooted, Grown, Swept, flag};
+ghost use Rattle.closure.specs.Props.{Chains-prop};
 
 use super::labels::join;
-use super::pending::{Equation, list_uses, propagate};
-use queue::Queue;
-use terms::{Node, TermRecord, same_node};
+use super::pending::{Uses, propagate};
+use super::places::Places;
+use terms::{MOST_TERMS, Node};
 
-pub(crate) const BUCKETS: usize = 1024;
-
-/// The node with the label of each place in it for the place.
-pub(crate) fn signature(node: Node, labels: &[u16]) -> Node
-    requires { Fit (length labels.now) node }
-    ensures { result ≡ relabel (label labels.now) node }
-{
-    match node {
-        Node::Name(x) => Node::Name(x),
-        Node::Constant(f) => Node::Constant(f),
-        Node::Unary(f, a) => Node::Unary(f, labels[a as usize]),
-        Node::Binary(f, a, b) => Node::Binary(f, labels[a as usize], labels[b as usize]),
-        Node::Ternary(f, a, b, c) => Node::Ternary(
-            f,
-            labels[a as usize],
-            labels[b as usize],
-            labels[c as usize],
-        ),
-    }
-}
+const BUCKETS: usize = 1024;
 
 /// The bucket of a signature.
 pub fn bucket(signature: Node) -> usize
@@ -48,192 +27,121 @@ pub fn bucket(signature: Node) -> usize
     }
 }
 
-/// A place of the sought signature on the chain from `first`.
-pub(crate) fn lookup(
-    bank: &[TermRecord],
-    terms: usize,
-    labels: &[u16],
-    next: &[Option<u16>],
-    first: Option<u16>,
-    sought: Node,
-) -> Option<usize>
-    requires ordered { Ordered bank.now terms }
-    requires labelled { terms ≤ length labels.now }
-    requires linked { terms ≤ length next.now }
-    requires down { (k : ℕ) → Under k (slice_index_or next.now k None) }
-    requires begin { Under terms first }
-    ensures { MatchOption result ((j : ℕ) → Reaches next.now first j → sig bank.now labels.now j ≢ sought) (λ j. (j < terms) × (sig bank.now labels.now j ≡ sought)) }
-{
-    let mut at = first;
-    while let Some(j) = at {
-        let place = j as usize;
-        if same_node(signature(bank[place].node, labels), sought) {
-            return Some(place);
-        }
-        at = next[place];
-    }
-    None
+/// Each of the first `seen` places has one of its signature on the chain of its bucket. Chains are links in arrays,
+/// since closure allocates nothing.
+#[derive(Drop)]
+pub(crate) struct Table {
+    heads: [Option<u16>; BUCKETS],
+    next: [Option<u16>; MOST_TERMS],
+    pub(crate) seen: usize,
+    ghost few: { seen ≤ 512 },
+    ghost chains: { Chains heads next seen } by { Chains-prop heads next seen },
 }
 
-/// Looks place `i` up by its signature: joins it with a place that has the same, or puts it on the table.
-/// Answers the label that gave way, where two classes became one.
-fn visit(
-    bank: &[TermRecord],
-    terms: usize,
-    labels: &mut [u16],
-    heads: &mut [Option<u16>],
-    next: &mut [Option<u16>],
-    i: usize,
-) -> Option<u16>
-    requires ordered { Ordered bank.now terms }
-    requires few { terms ≤ 512 }
-    requires labelled { terms ≤ length labels.old }
-    requires buckets { length heads.old ≡ 1024 }
-    requires links { length next.old ≡ 512 }
-    requires inside { i < terms }
-    requires rooted { Rooted terms labels.old }
-    requires chains { Chains heads.old next.old i }
-    ensures grown { Grown bank.now terms labels.old labels.new (flag (is_some result)) }
-    ensures chains { Chains heads.new next.new (i + 1) }
-    ensures swept { is_some result ≡ false → Swept bank.now labels.old heads.old next.old i → Swept bank.now labels.new heads.new next.new (i + 1) }
-{
-    let sought = signature(bank[i].node, labels);
-    let at = bucket(sought);
-    match lookup(bank, i, labels, next, heads[at], sought) {
-        Some(j) => {
-            let gone = labels[i].max(labels[j]);
-            if join(labels, terms, i, j) {
-                Some(gone)
-            } else {
+impl Table {
+    fn new() -> Self
+        ensures { result.seen ≡ 0 }
+    {
+        Table {
+            heads: [None; BUCKETS],
+            next: [None; MOST_TERMS],
+            seen: 0,
+        }
+    }
+
+    /// A place of the sought signature on the table. Crate `banks` looks nodes up in the same way: a call for both would
+    /// ask that chains go down, and public calls ask nothing.
+    pub(crate) fn lookup(&self, places: &Places, labels: &[u16], sought: Node) -> Option<usize>
+        requires inside { self.now.seen ≤ places.now.terms }
+        requires labelled { places.now.terms ≤ length labels.now }
+        ensures { MatchOption result ((j : ℕ) → Reaches self.now.next (slice_index_or self.now.heads (bucket_of sought) None) j → sig places.now.bank.now labels.now j ≢ sought) (λ j. (j < self.now.seen) × (sig places.now.bank.now labels.now j ≡ sought)) }
+    {
+        let mut at = self.heads[bucket(sought)];
+        while let Some(j) = at {
+            let place = j as usize;
+            if places.signature(place, labels) == sought {
+                return Some(place);
+            }
+            at = self.next[place];
+        }
+        None
+    }
+
+    /// Looks the next place up by its signature: joins it with a place that has the same, or puts it on its chain.
+    /// Answers the label that gave way, where two classes became one.
+    fn visit(&mut self, places: &Places, labels: &mut [u16]) -> Option<u16>
+        requires inside { self.old.seen < places.now.terms }
+        requires labelled { places.now.terms ≤ length labels.old }
+        requires rooted { Rooted places.now.terms labels.old }
+        ensures seen { self.new.seen ≡ self.old.seen + 1 }
+        ensures grown { Grown places.now.bank.now places.now.terms labels.old labels.new (flag (is_some result)) }
+        ensures swept { is_some result ≡ false → Swept places.now.bank.now labels.old self.old.heads self.old.next self.old.seen → Swept places.now.bank.now labels.new self.new.heads self.new.next self.new.seen }
+    {
+        let i = self.seen;
+        let sought = places.signature(i, labels);
+        match self.lookup(places, labels, sought) {
+            Some(j) => {
+                self.seen += 1;
+                let gone = labels[i].max(labels[j]);
+                join(labels, places.terms, i, j).then_some(gone)
+            }
+            None => {
+                let at = bucket(sought);
+                self.next[i] = self.heads[at];
+                self.heads[at] = Some(i as u16);
+                self.seen += 1;
                 None
             }
         }
-        None => {
-            next[i] = heads[at];
-            heads[at] = Some(i as u16);
-            None
-        }
     }
-}
 
-/// Looks place `i` up, and joins what follows among the places up to it. Answers how often two classes became one.
-fn step(
-    bank: &[TermRecord],
-    terms: usize,
-    labels: &mut [u16],
-    heads: &mut [Option<u16>],
-    next: &mut [Option<u16>],
-    uses: &mut [Option<u16>],
-    more: &mut [Option<u16>],
-    pending: &mut Queue<Equation>,
-    i: usize,
-) -> u16
-    requires ordered { Ordered bank.now terms }
-    requires few { terms ≤ 512 }
-    requires labelled { terms ≤ length labels.old }
-    requires buckets { length heads.old ≡ 1024 }
-    requires links { length next.old ≡ 512 }
-    requires inside { i < terms }
-    requires rooted { Rooted terms labels.old }
-    requires chains { Chains heads.old next.old i }
-    requires empty { entries pending.old ≡ [] }
-    requires short { room pending.old ≡ 64 }
-    ensures grown { Grown bank.now terms labels.old labels.new result }
-    ensures chains { Chains heads.new next.new (i + 1) }
-    ensures swept { result ≡ 0 → Swept bank.now labels.old heads.old next.old i → Swept bank.now labels.new heads.new next.new (i + 1) }
-    ensures empty { entries pending.new ≡ [] }
-    ensures roomy { room pending.new ≡ 64 }
-{
-    match visit(bank, terms, labels, heads, next, i) {
-        Some(gone) => 1
-            + propagate(
-                bank,
-                terms,
-                i + 1,
-                labels,
-                heads,
-                next,
-                uses,
-                more,
-                gone,
-                pending,
-            ),
-        None => 0,
+    /// Looks the next place up, and joins what follows among the places up to it. Answers how often two classes
+    /// became one.
+    fn step(&mut self, places: &Places, labels: &mut [u16], uses: &mut Uses) -> u16
+        requires inside { self.old.seen < places.now.terms }
+        requires labelled { places.now.terms ≤ length labels.old }
+        requires rooted { Rooted places.now.terms labels.old }
+        ensures seen { self.new.seen ≡ self.old.seen + 1 }
+        ensures grown { Grown places.now.bank.now places.now.terms labels.old labels.new result }
+        ensures swept { result ≡ 0 → Swept places.now.bank.now labels.old self.old.heads self.old.next self.old.seen → Swept places.now.bank.now labels.new self.new.heads self.new.next self.new.seen }
+    {
+        match self.visit(places, labels) {
+            Some(gone) => 1 + propagate(places, self, labels, uses, gone),
+            None => 0,
+        }
     }
 }
 
 /// One pass over all places, lowest first; answers how often two classes became one.
-fn sweep(
-    bank: &[TermRecord],
-    terms: usize,
-    labels: &mut [u16],
-    uses: &mut [Option<u16>],
-    more: &mut [Option<u16>],
-    pending: &mut Queue<Equation>,
-) -> u16
-    requires ordered { Ordered bank.now terms }
-    requires few { terms ≤ 512 }
-    requires labelled { terms ≤ length labels.old }
-    requires rooted { Rooted terms labels.old }
-    requires empty { entries pending.old ≡ [] }
-    requires short { room pending.old ≡ 64 }
-    ensures grown { Grown bank.now terms labels.old labels.new result }
-    ensures closed { result ≡ 0 → Closed bank.now terms labels.new }
-    ensures empty { entries pending.new ≡ [] }
-    ensures roomy { room pending.new ≡ 64 }
+fn sweep(places: &Places, labels: &mut [u16], uses: &mut Uses) -> u16
+    requires labelled { places.now.terms ≤ length labels.old }
+    requires rooted { Rooted places.now.terms labels.old }
+    ensures grown { Grown places.now.bank.now places.now.terms labels.old labels.new result }
+    ensures closed { result ≡ 0 → Closed places.now.bank.now places.now.terms labels.new }
 {
-    let mut heads: [Option<u16>; 1024] = [None; 1024];
-    let mut next: [Option<u16>; 512] = [None; 512];
+    let mut table = Table::new();
     let mut joins = 0;
-    for i in 0..terms {
-        joins += step(
-            bank, terms, labels, &mut heads, &mut next, uses, more, pending, i,
-        );
+    while table.seen < places.terms {
+        joins += table.step(places, labels, uses);
     }
     joins
 }
 
-/// Passes until one finds nothing to join; answers how often two classes became one.
-fn passes(
-    bank: &[TermRecord],
-    terms: usize,
-    labels: &mut [u16],
-    uses: &mut [Option<u16>],
-    more: &mut [Option<u16>],
-    pending: &mut Queue<Equation>,
-) -> u16
-    requires ordered { Ordered bank.now terms }
-    requires few { terms ≤ 512 }
-    requires labelled { terms ≤ length labels.old }
-    requires rooted { Rooted terms labels.old }
-    requires empty { entries pending.old ≡ [] }
-    requires short { room pending.old ≡ 64 }
-    ensures grown { Grown bank.now terms labels.old labels.new result }
-    ensures closed { Closed bank.now terms labels.new }
+/// Closes the labels under congruence, by passes until one finds nothing to join; answers how often two classes
+/// became one.
+pub(crate) fn saturate(places: &Places, labels: &mut [u16]) -> u16
+    requires labelled { places.now.terms ≤ length labels.old }
+    requires rooted { Rooted places.now.terms labels.old }
+    ensures grown { Grown places.now.bank.now places.now.terms labels.old labels.new result }
+    ensures closed { Closed places.now.bank.now places.now.terms labels.new }
 {
+    let mut uses = Uses::new(places, labels);
     let mut joins = 0;
     loop {
-        let found = sweep(bank, terms, labels, uses, more, pending);
+        let found = sweep(places, labels, &mut uses);
         if found == 0 {
             return joins;
         }
         joins += found;
     }
-}
-
-/// Closes the labels under congruence; answers how often two classes became one.
-pub(crate) fn saturate(bank: &[TermRecord], terms: usize, labels: &mut [u16]) -> u16
-    requires ordered { Ordered bank.now terms }
-    requires few { terms ≤ 512 }
-    requires labelled { terms ≤ length labels.old }
-    requires rooted { Rooted terms labels.old }
-    ensures grown { Grown bank.now terms labels.old labels.new result }
-    ensures closed { Closed bank.now terms labels.new }
-{
-    let mut uses: [Option<u16>; 512] = [None; 512];
-    let mut more: [Option<u16>; 1536] = [None; 1536];
-    list_uses(bank, terms, labels, &mut uses, &mut more);
-    let mut slots = [Equation::none(); 64];
-    let mut pending = Queue::new(&mut slots);
-    passes(bank, terms, labels, &mut uses, &mut more, &mut pending)
 }

@@ -16,18 +16,20 @@ pub fn same_node(a: Node, b: Node) -> bool
     a == b
 }
 
-/// Whether a node names places below `terms` and one of the 32 names.
-fn is_fit(node: Node, terms: usize) -> bool
-    ensures { Decides result (Fit terms node) }
-{
-    match node {
-        Node::Name(x) => x < 32,
-        Node::Constant(_) => true,
-        Node::Unary(_, a) => (a as usize) < terms,
-        Node::Binary(_, a, b) => (a as usize) < terms && (b as usize) < terms,
-        Node::Ternary(_, a, b, c) => (a as usize) < terms
-            && (b as usize) < terms
-            && (c as usize) < terms,
+impl Node {
+    /// Whether the node names places below `terms` and one of the 32 names.
+    fn is_fit(self, terms: usize) -> bool
+        ensures { Decides result (Fit terms self) }
+    {
+        match self {
+            Node::Name(x) => x < 32,
+            Node::Constant(_) => true,
+            Node::Unary(_, a) => (a as usize) < terms,
+            Node::Binary(_, a, b) => (a as usize) < terms && (b as usize) < terms,
+            Node::Ternary(_, a, b, c) => (a as usize) < terms
+                && (b as usize) < terms
+                && (c as usize) < terms,
+        }
     }
 }
 
@@ -35,58 +37,35 @@ fn find(bank: &[TermRecord], terms: usize, node: Node) -> Option<usize>
     requires { terms ≤ length bank.now }
     ensures { MatchOption result (Lacks bank.now terms node) (λ i. (i < terms) × (node_at bank.now i ≡ node)) }
 {
-    for i in 0..terms {
-        if same_node(bank[i].node, node) {
-            return Some(i);
-        }
-    }
-    None
+    bank[..terms].iter().position(|record| record.node == node)
 }
 
 fn measured(bank: &[TermRecord], node: Node) -> TermRecord
     requires { Fit (length bank.now) node }
     ensures { result ≡ record_of bank.now node }
 {
-    match node {
-        Node::Name(x) => TermRecord {
-            node,
-            height: 0,
-            names: 1u32 << x,
-        },
-        Node::Constant(_) => TermRecord {
-            node,
-            height: 0,
-            names: 0,
-        },
+    let (height, names) = match node {
+        Node::Name(x) => (0, 1u32 << x),
+        Node::Constant(_) => (0, 0),
         Node::Unary(_, a) => {
             let a = bank[a as usize];
-            TermRecord {
-                node,
-                height: a.height.saturating_add(1),
-                names: a.names,
-            }
+            (a.height.saturating_add(1), a.names)
         }
         Node::Binary(_, a, b) => {
-            let a = bank[a as usize];
-            let b = bank[b as usize];
+            let (a, b) = (bank[a as usize], bank[b as usize]);
             let height = a.height.max(b.height);
-            TermRecord {
-                node,
-                height: height.saturating_add(1),
-                names: a.names | b.names,
-            }
+            (height.saturating_add(1), a.names | b.names)
         }
         Node::Ternary(_, a, b, c) => {
-            let a = bank[a as usize];
-            let b = bank[b as usize];
-            let c = bank[c as usize];
+            let (a, b, c) = (bank[a as usize], bank[b as usize], bank[c as usize]);
             let height = a.height.max(b.height.max(c.height));
-            TermRecord {
-                node,
-                height: height.saturating_add(1),
-                names: a.names | (b.names | c.names),
-            }
+            (height.saturating_add(1), a.names | (b.names | c.names))
         }
+    };
+    TermRecord {
+        node,
+        height,
+        names,
     }
 }
 
@@ -94,7 +73,7 @@ fn file(bank: &mut [TermRecord], count: &mut Count, node: Node) -> Result<u16, T
     ensures { Filed bank.old count.old.terms node bank.new count.new.terms result }
 {
     let terms = count.terms as usize;
-    if terms > bank.len() || !is_fit(node, terms) {
+    if terms > bank.len() || !node.is_fit(terms) {
         return Err(TableFault::BadMemory);
     }
     if let Some(i) = find(bank, terms, node) {
@@ -121,15 +100,11 @@ pub fn intern(bank: &mut [TermRecord], count: &mut Count, node: Node) -> Result<
 pub fn is_ordered(bank: &[TermRecord], terms: usize) -> bool
     ensures { Decides result (Ordered bank.now terms) }
 {
-    if terms > bank.len() {
-        return false;
-    }
-    for i in 0..terms {
-        if !is_fit(bank[i].node, i) {
-            return false;
-        }
-    }
-    true
+    terms <= bank.len()
+        && bank[..terms]
+            .iter()
+            .enumerate()
+            .all(|(i, record)| record.node.is_fit(i))
 }
 
 impl TermRecord {
@@ -146,7 +121,7 @@ impl TermRecord {
 pub fn with_places(node: Node, places: &[u16]) -> Option<Node>
     ensures { MatchOption result (Fit (length places.now) node → ⊥) (λ moved. Fit (length places.now) node × (moved ≡ relabel (λ a. slice_index places.now a) node)) }
 {
-    if !is_fit(node, places.len()) {
+    if !node.is_fit(places.len()) {
         return None;
     }
     Some(match node {
@@ -167,14 +142,7 @@ pub fn with_places(node: Node, places: &[u16]) -> Option<Node>
 pub fn is_measured(bank: &[TermRecord], i: usize) -> bool
     ensures { Decides result (Measured bank.now i) }
 {
-    if i >= bank.len() {
-        return false;
-    }
-    let found = bank[i];
-    if !is_fit(found.node, i) {
-        return false;
-    }
-    found == measured(bank, found.node)
+    i < bank.len() && bank[i].node.is_fit(i) && bank[i] == measured(bank, bank[i].node)
 }
 
 /// Restores the count when it is let go, so that terms added meanwhile leave the bank on every way out.

@@ -7,8 +7,12 @@ use Rattle.closure.proofs.pending.propagate.Given as goal
 
 abbrev pub invariant-loop-equation : goal.invariant-loop-equation
 invariant-loop-equation l =
-    Grown l.bank l.terms l.initial.labels l.labels l.joins × Due l.bank l.terms l.initial.labels (entries l.pending) × (room l.pending ≡ 64)
+    record {
+      grown : Grown l.places.bank.now l.places.terms l.initial.labels l.labels l.joins;
+      due : Due l.places.bank.now l.places.terms l.initial.labels (entries l.pending);
+      short : room l.pending ≡ 64;
+    }
 
 -- a join takes a class away, and leaves at most as many entries as there is room for
 abbrev pub decreases-loop-equation : goal.decreases-loop-equation
-decreases-loop-equation l = classes l.terms l.labels * 65 + length (entries l.pending)
+decreases-loop-equation l = classes l.places.terms l.labels * 65 + length (entries l.pending)

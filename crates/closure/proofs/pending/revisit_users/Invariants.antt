@@ -5,4 +5,4 @@ use Rattle.closure.proofs.pending.revisit_users.Given as goal
 
 abbrev pub invariant-loop : goal.invariant-loop
 invariant-loop l =
-    Added l.bank l.seen l.labels (entries l.initial.pending) (entries l.pending) × (room l.pending ≡ room l.initial.pending)
+    Added l.places.bank.now l.places.terms l.labels (entries l.initial.pending) (entries l.pending) × (room l.pending ≡ room l.initial.pending)

@@ -1,9 +1,14 @@
-use Rattle.std.proofs.Common.{◌≡◌, [], length}
-use Rattle.queue.specs.Entries.{entries, room}
-use Rattle.closure.specs.Working.{Grown, Chains, Swept}
+use Rattle.std.proofs.Common.{◌≡◌, ◌-◌, ◌≤◌}
+use Rattle.closure.specs.Working.{Grown, Swept}
 use Rattle.closure.proofs.table.sweep.Given as goal
 
-abbrev pub invariant-loop-i : goal.invariant-loop-i
-invariant-loop-i l =
-    Grown l.bank l.terms l.initial.labels l.labels l.joins × Chains l.heads l.next l.i × (length l.heads ≡ 1024) × (length l.next ≡ 512)
-    × (l.joins ≡ 0 → Swept l.bank l.labels l.heads l.next l.i) × (entries l.pending ≡ []) × (room l.pending ≡ 64)
+abbrev pub invariant-loop-table : goal.invariant-loop-table
+invariant-loop-table l =
+    record {
+      grown : Grown l.places.bank.now l.places.terms l.initial.labels l.labels l.joins;
+      inside : l.table.seen ≤ l.places.terms;
+      swept : l.joins ≡ 0 → Swept l.places.bank.now l.labels l.table.heads l.table.next l.table.seen;
+    }
+
+abbrev pub decreases-loop-table : goal.decreases-loop-table
+decreases-loop-table l = l.places.terms - l.table.seen
