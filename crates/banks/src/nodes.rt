@@ -2,7 +2,8 @@
 ghost use Rattle.std.specs.Prelude.{◌≡◌, ℕ, ◌+◌, ◌<◌, ◌≤◌, true, length, None, Decides, MatchOption};
 ghost use Rattle.terms.specs.Bank.{node_at, Lacks};
 ghost use Rattle.closure.specs.Working.{Chains};
-ghost use Rattle.banks.specs.Listing.{Listed, under_prop};
+ghost use Rattle.closure.specs.Props.{Chains-prop};
+ghost use Rattle.banks.specs.Listing.{Listed};
 
 use closure::bucket;
 use terms::{MOST_TERMS, Node, TermRecord};
@@ -17,7 +18,7 @@ pub(crate) struct Nodes<'a> {
     next: [Option<u16>; MOST_TERMS],
     ghost inside: { used ≤ length bank.now },
     ghost few: { used ≤ 512 },
-    ghost chains: { Chains heads next used } by { Prim.hlevel under_prop },
+    ghost chains: { Chains heads next used } by { Chains-prop heads next used },
     ghost listed: { ∥ Listed bank.now heads next used ∥₁ },
 }
 

@@ -1,14 +1,10 @@
 -- The written form of terms and conditions: `xN` a name, `sN` a constant, `sN(a,b,c)` a symbol over terms, and a line
 -- for each condition, `TERM = TERM` or `TERM # TERM`. Assumes nothing.
 use Rattle.std.specs.Prelude.{◌≡◌, ℕ, ◌<◌, List, [], ◌∷◌, ◌++◌, length, codes, decimal, slice_index_or}
-use Rattle.std.specs.Coded.{×_prop, Unit-prop, le_prop}
 use Rattle.std.specs.List.{flat_map}
 use Rattle.terms.specs.declared.Sign.{Sign}
 use Rattle.terms.specs.declared.Sign.TheVariants.{Equal, Different}
 use Rattle.terms.specs.declared.Condition.{Condition}
-use Rattle.terms.specs.declared.Node.{Node}
-use Rattle.terms.specs.declared.Node.TheVariants.{Name, Constant, Unary, Binary, Ternary}
-use Rattle.terms.specs.Bank.{Fit}
 use Rattle.closure.specs.Labels.{no_condition}
 use Rattle.terms.specs.Terms.{Term, name, constant, unary, binary, ternary, Literal, Sat}
 use Rattle.notation.specs.declared.document.Answer.{Answer}
@@ -43,11 +39,3 @@ Answers text (Impossible j) = (cs : List Literal) × (text ≡ document cs) × (
 Answers text Possible = (cs : List Literal) × (text ≡ document cs) × Sat cs
 Answers text Full = Unit {0}
 Answers text (Unreadable s) = Unit {0}
-
--- that a node fits has one proof
-pub fit_prop : (n : ℕ) (node : Node) → IsProp (Fit n node)
-fit_prop n (Name x) = le_prop
-fit_prop n (Constant f) = Unit-prop
-fit_prop n (Unary f a) = le_prop
-fit_prop n (Binary f a b) = ×_prop le_prop le_prop
-fit_prop n (Ternary f a b c) = λ p q. λ i. (le_prop p.0 q.0 i, le_prop p.1 q.1 i, le_prop p.2 q.2 i)

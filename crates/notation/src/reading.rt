@@ -1,7 +1,8 @@
 //! Terms read from the front of a text into a bank.
 ghost use Rattle.std.specs.Prelude.{◌≡◌, ◌<◌, ◌∷◌, ◌++◌, IfOk};
 ghost use Rattle.terms.specs.Bank.{Bank, Fit, term_of, term_at, literal_of, Extends};
-ghost use Rattle.notation.specs.Written.{written, line, fit_prop};
+ghost use Rattle.closure.specs.Props.{Fit-prop};
+ghost use Rattle.notation.specs.Written.{written, line};
 ghost use Rattle.std.proofs.Props.{props};
 
 use super::Unread;
@@ -16,7 +17,7 @@ const DEEPEST: u16 = 512;
 pub(crate) struct Reader {
     pub(crate) bank: [TermRecord; MOST_TERMS],
     pub(crate) count: Count,
-    ghost terms: { Bank bank count.terms } by { Prim.hlevel (props, fit_prop) },
+    ghost terms: { Bank bank count.terms } by { Prim.hlevel (props, Fit-prop) },
     arities: [Option<u8>; 256],
 }
 
