@@ -1,6 +1,6 @@
 //! Pending equations: what a join makes equal among the places that a pass has left behind. The lists of uses only
 //! say where to look, so no proof rests on them: a pass that finds nothing to join ends the closure.
-ghost use Rattle.std.specs.Prelude.{◌≡◌, ℕ, ◌<◌, ◌≤◌, false, length};
+ghost use Rattle.std.specs.Prelude.{◌≡◌, ℕ, ◌<◌, ◌≤◌, false, [], length};
 ghost use Rattle.queue.specs.Entries.{entries, room};
 ghost use Rattle.closure.specs.Working.{Rooted, Joined, Grown};
 ghost use Rattle.closure.specs.Pending.{Added};
@@ -20,7 +20,23 @@ pub(crate) struct Equation {
 
 impl Equation {
     /// What a slot holds before it is used.
-    const BLANK: Equation = Equation { left: 0, right: 0 };
+    pub(crate) const BLANK: Equation = Equation { left: 0, right: 0 };
+}
+
+/// The queue of pending equations between two joins, when none is pending. Its slots are lent once for all joins.
+#[derive(Drop)]
+pub(crate) struct Pending<'a> {
+    queue: Queue<'a, Equation>,
+    ghost empty: { entries queue ≡ [] },
+    ghost short: { room queue ≡ 64 },
+}
+
+impl<'a> Pending<'a> {
+    pub(crate) fn new(slots: &'a mut [Equation; 64]) -> Self {
+        Pending {
+            queue: Queue::new(slots),
+        }
+    }
 }
 
 /// Most uses of one place.
@@ -52,9 +68,17 @@ impl Uses {
     fn note(&mut self, labels: &[u16], node: Node, from: usize)
         requires { from < 1536 }
     {
-        for (k, argument) in arguments(node).iter().enumerate() {
-            if let Some(argument) = argument {
-                self.link(labels, *argument, from + k);
+        match node {
+            Node::Name(_) | Node::Constant(_) => {}
+            Node::Unary(_, a) => self.link(labels, a, from),
+            Node::Binary(_, a, b) => {
+                self.link(labels, a, from);
+                self.link(labels, b, from + 1);
+            }
+            Node::Ternary(_, a, b, c) => {
+                self.link(labels, a, from);
+                self.link(labels, b, from + 1);
+                self.link(labels, c, from + 2);
             }
         }
     }
@@ -84,16 +108,6 @@ impl Uses {
         self.more[here] = self.first[heir];
         self.first[heir] = Some(entry);
         Some(here / ARGUMENTS)
-    }
-}
-
-/// The places that a node names.
-fn arguments(node: Node) -> [Option<u16>; ARGUMENTS] {
-    match node {
-        Node::Name(_) | Node::Constant(_) => [None, None, None],
-        Node::Unary(_, a) => [Some(a), None, None],
-        Node::Binary(_, a, b) => [Some(a), Some(b), None],
-        Node::Ternary(_, a, b, c) => [Some(a), Some(b), Some(c)],
     }
 }
 
@@ -188,6 +202,7 @@ pub(crate) fn propagate(
     table: &Table,
     labels: &mut [u16],
     uses: &mut Uses,
+    pending: &mut Pending,
     gone: u16,
 ) -> u16
     requires inside { table.now.seen ≤ places.now.terms }
@@ -195,12 +210,11 @@ pub(crate) fn propagate(
     requires rooted { Rooted places.now.terms labels.old }
     ensures { Grown places.now.bank.now places.now.terms labels.old labels.new result }
 {
-    let mut slots = [Equation::BLANK; 64];
-    let mut pending = Queue::new(&mut slots);
-    revisit_users(places, table, labels, uses, gone, &mut pending);
+    let queue = &mut pending.queue;
+    revisit_users(places, table, labels, uses, gone, queue);
     let mut joins = 0;
-    while let Some(equation) = pending.pop() {
-        if settle(places, table, labels, uses, equation, &mut pending) {
+    while let Some(equation) = queue.pop() {
+        if settle(places, table, labels, uses, equation, queue) {
             joins += 1;
         }
     }

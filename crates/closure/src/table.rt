@@ -4,7 +4,7 @@ ghost use Rattle.closure.specs.Working.{sig, Closed, bucket_of, Reaches, Chains,
 ghost use Rattle.closure.specs.Props.{Chains-prop};
 
 use super::labels::join;
-use super::pending::{Uses, propagate};
+use super::pending::{Equation, Pending, Uses, propagate};
 use super::places::Places;
 use terms::{MOST_TERMS, Node};
 
@@ -97,7 +97,13 @@ impl Table {
 
     /// Looks the next place up, and joins what follows among the places up to it. Answers how often two classes
     /// became one.
-    fn step(&mut self, places: &Places, labels: &mut [u16], uses: &mut Uses) -> u16
+    fn step(
+        &mut self,
+        places: &Places,
+        labels: &mut [u16],
+        uses: &mut Uses,
+        pending: &mut Pending,
+    ) -> u16
         requires inside { self.old.seen < places.now.terms }
         requires labelled { places.now.terms ≤ length labels.old }
         requires rooted { Rooted places.now.terms labels.old }
@@ -106,14 +112,14 @@ impl Table {
         ensures swept { result ≡ 0 → Swept places.now.bank.now labels.old self.old.heads self.old.next self.old.seen → Swept places.now.bank.now labels.new self.new.heads self.new.next self.new.seen }
     {
         match self.visit(places, labels) {
-            Some(gone) => 1 + propagate(places, self, labels, uses, gone),
+            Some(gone) => 1 + propagate(places, self, labels, uses, pending, gone),
             None => 0,
         }
     }
 }
 
 /// One pass over all places, lowest first; answers how often two classes became one.
-fn sweep(places: &Places, labels: &mut [u16], uses: &mut Uses) -> u16
+fn sweep(places: &Places, labels: &mut [u16], uses: &mut Uses, pending: &mut Pending) -> u16
     requires labelled { places.now.terms ≤ length labels.old }
     requires rooted { Rooted places.now.terms labels.old }
     ensures grown { Grown places.now.bank.now places.now.terms labels.old labels.new result }
@@ -122,7 +128,7 @@ fn sweep(places: &Places, labels: &mut [u16], uses: &mut Uses) -> u16
     let mut table = Table::new();
     let mut joins = 0;
     while table.seen < places.terms {
-        joins += table.step(places, labels, uses);
+        joins += table.step(places, labels, uses, pending);
     }
     joins
 }
@@ -136,9 +142,11 @@ pub(crate) fn saturate(places: &Places, labels: &mut [u16]) -> u16
     ensures closed { Closed places.now.bank.now places.now.terms labels.new }
 {
     let mut uses = Uses::new(places, labels);
+    let mut slots = [Equation::BLANK; 64];
+    let mut pending = Pending::new(&mut slots);
     let mut joins = 0;
     loop {
-        let found = sweep(places, labels, &mut uses);
+        let found = sweep(places, labels, &mut uses, &mut pending);
         if found == 0 {
             return joins;
         }

@@ -15,8 +15,8 @@ loop-equation-init c =
     let grown = grown_none rs n l c.requires.rooted in
     record {
       grown = grown;
-      due = due_more rs n l l 0 (entries c.new-pending.result) (entries c.revisit_users.new.pending) grown (subst (Due rs n l) (sym c.new-pending.ensures.empty) tt) c.revisit_users.ensures.added;
-      short = c.revisit_users.ensures.roomy ∙ c.new-pending.ensures.roomy;
+      due = due_more rs n l l 0 (entries c.args.pending.now.queue) (entries c.revisit_users.new.pending) grown (subst (Due rs n l) (sym c.args.pending.now.empty) tt) c.revisit_users.ensures.added;
+      short = c.revisit_users.ensures.roomy ∙ c.args.pending.now.short;
     }
 
 pub overflow_add-joins : goal.overflow_add-joins
