@@ -13,6 +13,7 @@ pub fn is_bank(bank: &[TermRecord], terms: usize) -> bool
         return false;
     }
     let mut nodes = Nodes::new(bank);
+    // By number, since a record is measured against those below its place.
     for i in 0..terms {
         if !is_measured(bank, i) || !nodes.enter() {
             return false;

@@ -42,7 +42,8 @@ fn inputs_of(inputs: &[u32], each: u8, i: u32) -> &[u32]
     &inputs[from..from + each as usize]
 }
 
-// The run itself: its answer, and the last configuration that it reaches.
+// The run itself: its answer, and the last configuration that it reaches. Starts, steps and inputs stay apart, as
+// callers have them: a struct would be made only to be taken apart.
 fn carry_out<M: Model>(
     sheet: &Sheet,
     model: &mut M,

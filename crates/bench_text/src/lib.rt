@@ -20,7 +20,7 @@ use run_file_error::ReadFailure;
 use sheet::Sheet;
 use std::alloc::{AllocError, Global};
 
-// Each number after a space.
+// Each number after a space. As in `sheet_text`, over other numbers: a crate for one loop would be longer.
 fn push_numbers(text: &mut String, numbers: &[u32]) -> Result<(), AllocError>
     ensures { OnOk result (string_bytes text.new ≡ string_bytes text.old ++ spaced numbers.now) }
 {

@@ -113,6 +113,7 @@ impl<'a> Question<'a> {
 }
 
 /// What closure finds of conditions: whether no interpretation meets them, and how often two classes became one.
+// No `Option` of the number, which counts in both cases.
 #[derive(Clone, Copy)]
 pub struct Verdict {
     pub impossible: bool,

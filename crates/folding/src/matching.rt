@@ -65,6 +65,7 @@ impl View<'_> {
         requires { Between self.now.count.terms conditions.now (length conditions.now) }
         ensures { (vector : List Term) → NamesIn names vector → Decides result (AllByRecursion (λ c. is_named vector c ≡ true) (literals self.now.records.now conditions.now)) }
     {
+        // A loop, since a closure would have to say again that each condition is between the bank's terms.
         for condition in conditions {
             if !self.is_named(names, *condition) {
                 return false;

@@ -1,4 +1,6 @@
 //! A large row: six vector terms 4 to 8 high and 22 conditions, in a bank of some 300 terms.
+ghost use Rattle.std.specs.Prelude.{ℕ};
+
 use fault::TableFault;
 use rows::{RowRecord, at_or};
 use terms::{Condition, Count, Node, Sign, TermRecord, intern};
@@ -60,25 +62,20 @@ impl Bank<'_> {
         Ok(())
     }
 
-    fn add_names(&mut self) -> Result<[u16; 8], TableFault> {
-        let mut names = [0; 8];
-        for (name, x) in names.iter_mut().zip(0..8u8) {
-            *name = self.add(Node::Name(x))?;
+    /// Eight terms without arguments, by number.
+    fn add_leaves<F: Fn(u8) -> Node + Drop>(&mut self, leaf: F) -> Result<[u16; 8], TableFault>
+        requires { (x : ℕ) → F.pre leaf x }
+    {
+        let mut places = [0; 8];
+        for (place, x) in places.iter_mut().zip(0..8u8) {
+            *place = self.add(leaf(x))?;
         }
-        Ok(names)
-    }
-
-    fn add_constants(&mut self) -> Result<[u16; 8], TableFault> {
-        let mut constants = [0; 8];
-        for (constant, s) in constants.iter_mut().zip(0..8u8) {
-            *constant = self.add(Node::Constant(s))?;
-        }
-        Ok(constants)
+        Ok(places)
     }
 
     fn add_stock(&mut self) -> Result<Stock, TableFault> {
-        let names = self.add_names()?;
-        let constants = self.add_constants()?;
+        let names = self.add_leaves(|x| Node::Name(x))?;
+        let constants = self.add_leaves(|s| Node::Constant(s))?;
         let mut shared = [0; 4];
         for (k, term) in shared.iter_mut().enumerate() {
             *term = self.add(Node::Binary(2, names[k + 4], constants[k]))?;

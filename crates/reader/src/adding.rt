@@ -12,6 +12,8 @@ use sheet::{
 use std::alloc::AllocError;
 
 impl Draft {
+    // A method for each kind of thing, which adds to a list of its own: a generic one would be given the list, its
+    // element and the record, and say no less.
     fn add_bit(&mut self, start: bool) -> Result<(), AllocError>
         ensures { OnOk result (Added self.old (Record.Bit start) self.new) }
     {

@@ -4,6 +4,7 @@ ghost use Rattle.reader.specs.Decode.{bit_of, start_of, args_of, term_of, formul
 
 use sheet::{Args, Choice, Formula, Start, Term};
 
+// Functions and no `TryFrom`: what most bodies say depends on several of their bytes together.
 pub(crate) fn decode_bit(start: u8) -> Option<bool>
     ensures { result ≡ bit_of start }
 {

@@ -34,6 +34,7 @@ impl Draft {
             .unwrap_or(0)
     }
 
+    // Beside `formula_info`: the two read other fields of other entries, in one line each.
     pub(crate) fn term_info(&self, term: u8) -> TermInfo
         ensures { result ≡ slice_index_or (map term_info_in self.now.parts.terms.items) term no_info }
     {

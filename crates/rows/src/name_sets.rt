@@ -42,6 +42,7 @@ fn names_of_condition(bank: &[TermRecord], condition: Condition) -> u32
 }
 
 /// The names in some conditions.
+// Beside `names_of_terms`: each reads its elements in another way, and a closure for that would be longer.
 pub fn names_of_conditions(bank: &[TermRecord], conditions: &[Condition]) -> u32
     ensures { (n : ℕ) → Bank bank.now n → Between n conditions.now (length conditions.now) → NamesOfLiterals result (map (literal_of bank.now) conditions.now) }
 {

@@ -69,6 +69,7 @@ impl Draft {
         Ok(())
     }
 
+    // Beside `add_curve`: each takes another arm of the plant.
     fn add_entry(&mut self, numbers: &[u32]) -> Result<(), Halt>
         ensures { Means (λ _. so_far self.new) result (acted Keyword.Entry (so_far self.old) numbers.now) }
     {

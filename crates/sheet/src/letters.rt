@@ -8,6 +8,7 @@ use crate::syntax::Record;
 
 impl Kind {
     /// The kind that a letter begins.
+    // An `Option` and no `TryFrom`, since there is nothing to say of another letter.
     pub fn of_letter(byte: u8) -> Option<Kind>
         ensures { MatchOption result ((k : Kind) → letter k ≢ byte) (λ k. letter k ≡ byte) }
     {

@@ -9,7 +9,7 @@ use fault::TableFault;
 /// The most different terms that a bank holds.
 pub const MOST_TERMS: usize = 512;
 
-/// Whether two nodes are the same.
+/// Whether two nodes are the same: what the derived `==` decides, in a contract.
 pub fn same_node(a: Node, b: Node) -> bool
     ensures { Decides result (a ≡ b) }
 {
