@@ -4,15 +4,15 @@ use Rattle.sheet.specs.Stored.{term_in}
 use Rattle.forms.specs.Candidate.{terms_over, condition_of}
 use Rattle.forms.specs.Counted.{sides_of}
 use Rattle.candidates.specs.Working.{literal_for, no_literal}
-use Rattle.candidates.proofs.Walking.{walked_start}
+use Rattle.candidates.proofs.Walking.{walked_start, lent_all, lent_more}
 use Rattle.std.proofs.lemmas.List.{take_all, length-set}
 use Rattle.banks.specs.Gains.{Gained}
 use Rattle.sheet.proofs.Numbering.{numbered_at, numbered-length}
 use Rattle.candidates.proofs.Listing.{added_break, asked_more, asked_break, no_equation}
 use Rattle.candidates.proofs.asking.ask.Goals as goal
 
-pub returns-in_err-list : goal.returns-in_err-list
-returns-in_err-list c v over started =
+pub returns-in_err-list-clause-conditions : goal.returns-in_err-list-clause-conditions
+returns-in_err-list-clause-conditions c v over started =
     let values = terms_over v c.args.given.inputs.now (map term_in c.args.given.terms.now) in
     let all = numbered (condition_of values c.args.answers.now) 0 c.args.questions.now in
     let i = c.loop-i.i in
@@ -20,21 +20,23 @@ returns-in_err-list c v over started =
     let inside' : i < length all = omega (arith, numbered-length (condition_of values c.args.answers.now) 0 c.args.questions.now) in
     let l = literal_for values (get_or c.args.questions.now i no_equation) c.at_or-answer.result in
     let is : l ≡ get_or all i no_literal = ap (literal_for values (get_or c.args.questions.now i no_equation)) c.at_or-answer.ensures ∙ sym (numbered_at (condition_of values c.args.answers.now) c.args.questions.now i no_literal no_equation inside) in
-    let w = c.loop-i.invariant.1 v over started in
-    let x = c.in_err-list.ensures v w.0.over w.0.started in
-    added_break c.args.bank.now c.args.count.now.terms (sides_of all) c.condition_of.new.bank c.condition_of.new.count.terms _ c.in_err-list.field-0.0 c.from_residual.result x.0
-    (asked_break values v c.args.given.vector.now c.args.given.inputs.now c.args.bank.now c.args.count.now.terms i c.loop-i.bank c.loop-i.count.terms c.loop-i.known c.condition_of.new.bank c.condition_of.new.count.terms c.condition_of.new.known all l inside' is w.0 x.1 x.2) c.from_residual.ensures.1
+    let w = c.loop-i.invariant.2 v over started in
+    let x = c.in_err-list.ensures.condition v w.0.over w.0.started in
+    added_break c.args.memory.now.bank.now c.args.memory.now.count.now.terms (sides_of all) c.condition_of.new.memory.bank.now c.condition_of.new.memory.count.now.terms _ c.in_err-list.field-0.0 c.from_residual.result x.0
+    (asked_break values v c.args.given.vector.now c.args.given.inputs.now c.args.memory.now.bank.now c.args.memory.now.count.now.terms i c.loop-i.memory.bank.now c.loop-i.memory.count.now.terms c.loop-i.memory.known c.condition_of.new.memory.bank.now c.condition_of.new.memory.count.now.terms c.condition_of.new.memory.known all l inside' is w.0 x.1 x.2) c.from_residual.ensures.1
 
 pub loop-i-init : goal.loop-i-init
 loop-i-init c = (
   refl,
+  lent_all c.args.memory.now,
   λ v over started.
-      (walked_start (terms_over v c.args.given.inputs.now (map term_in c.args.given.terms.now)) v c.args.given.vector.now c.args.given.inputs.now c.args.bank.now c.args.count.now.terms c.args.known.now over started, λ k lt. absurd (omega arith)),
+      (walked_start (terms_over v c.args.given.inputs.now (map term_in c.args.given.terms.now)) v c.args.given.vector.now c.args.given.inputs.now c.args.memory.now.bank.now c.args.memory.now.count.now.terms c.args.memory.now.known over started, λ k lt. absurd (omega arith)),
 )
 
 pub loop-i-preserved : goal.loop-i-preserved
 loop-i-preserved c = (
   length-set c.loop-i.list c.loop-i.i c.in_ok-list.field-0 ∙ c.loop-i.invariant.0,
+  lent_more c.args.memory.now c.loop-i.memory c.condition_of.new.memory c.loop-i.invariant.1 c.condition_of.ensures.lent,
   λ v over started.
       let values = terms_over v c.args.given.inputs.now (map term_in c.args.given.terms.now) in
       let all = numbered (condition_of values c.args.answers.now) 0 c.args.questions.now in
@@ -43,16 +45,22 @@ loop-i-preserved c = (
       let inside' : i < length all = omega (arith, numbered-length (condition_of values c.args.answers.now) 0 c.args.questions.now) in
       let l = literal_for values (get_or c.args.questions.now i no_equation) c.at_or-answer.result in
       let is : l ≡ get_or all i no_literal = ap (literal_for values (get_or c.args.questions.now i no_equation)) c.at_or-answer.ensures ∙ sym (numbered_at (condition_of values c.args.answers.now) c.args.questions.now i no_literal no_equation inside) in
-      let w = c.loop-i.invariant.1 v over started in
-      let x = c.in_ok-list.ensures v w.0.over w.0.started in
-      asked_more values v c.args.given.vector.now c.args.given.inputs.now c.args.bank.now c.args.count.now.terms i c.loop-i.bank c.loop-i.count.terms c.loop-i.known c.condition_of.new.bank c.condition_of.new.count.terms c.condition_of.new.known all l inside' is w.0 c.loop-i.list c.in_ok-list.field-0 (omega (arith, c.loop-i.invariant.0)) w.1 c.condition_of.auto.bank x.0 x.1,
+      let w = c.loop-i.invariant.2 v over started in
+      let x = c.in_ok-list.ensures.condition v w.0.over w.0.started in
+      asked_more values v c.args.given.vector.now c.args.given.inputs.now c.args.memory.now.bank.now c.args.memory.now.count.now.terms i c.loop-i.memory.bank.now c.loop-i.memory.count.now.terms c.loop-i.memory.known c.condition_of.new.memory.bank.now c.condition_of.new.memory.count.now.terms c.condition_of.new.memory.known all l inside' is w.0 c.loop-i.list c.in_ok-list.field-0 (omega (arith, c.loop-i.invariant.0)) w.1 c.condition_of.ensures.lent.2 x.0 x.1,
 )
 
-pub returns : goal.returns
-returns c v over started =
+pub returns-clause-conditions : goal.returns-clause-conditions
+returns-clause-conditions c v over started =
     let values = terms_over v c.args.given.inputs.now (map term_in c.args.given.terms.now) in
     let all = numbered (condition_of values c.args.answers.now) 0 c.args.questions.now in
-    let w = c.loop-i.invariant.1 v over started in
+    let w = c.loop-i.invariant.2 v over started in
     let end : c.loop-i.i ≡ length c.args.questions.now = omega arith in
     let whole : take c.loop-i.i all ≡ all = take_all c.loop-i.i all (omega (arith, numbered-length (condition_of values c.args.answers.now) 0 c.args.questions.now)) in
-    (subst (λ ls. Gained c.args.bank.now c.args.count.now.terms (sides_of ls) c.loop-i.bank c.loop-i.count.terms) whole w.0.gained, record { made = λ k lt. w.1 k (omega arith); recalled = w.0.started.recalled })
+    (subst (λ ls. Gained c.args.memory.now.bank.now c.args.memory.now.count.now.terms (sides_of ls) c.loop-i.memory.bank.now c.loop-i.memory.count.now.terms) whole w.0.gained, record { made = λ k lt. w.1 k (omega arith); recalled = w.0.started.recalled })
+
+pub returns-in_err-list-clause-lent : goal.returns-in_err-list-clause-lent
+returns-in_err-list-clause-lent c = lent_more c.args.memory.now c.loop-i.memory c.condition_of.new.memory c.loop-i.invariant.1 c.condition_of.ensures.lent
+
+pub returns-clause-lent : goal.returns-clause-lent
+returns-clause-lent c = c.loop-i.invariant.1

@@ -4,13 +4,14 @@ use Rattle.sheet.specs.Stored.{term_in}
 use Rattle.terms.specs.Terms.{Term}
 use Rattle.forms.specs.Candidate.{terms_over, condition_of}
 use Rattle.forms.specs.Counted.{sides_of}
-use Rattle.candidates.specs.Working.{Over, Started, Walked, Listed}
+use Rattle.candidates.specs.Working.{Lent, Over, Started, Walked, Listed}
 use Rattle.candidates.proofs.asking.ask.Given as goal
 
 abbrev pub invariant-loop-i : goal.invariant-loop-i
 invariant-loop-i l =
     (length l.list ≡ 22)
-    × ((v : List Term) → Over v l.initial.bank l.initial.count.terms l.given.vector.now l.given.inputs.now
-    → Started (terms_over v l.given.inputs.now (map term_in l.given.terms.now)) l.initial.bank l.initial.count.terms l.initial.known
-    → Walked (terms_over v l.given.inputs.now (map term_in l.given.terms.now)) v l.given.vector.now l.given.inputs.now l.initial.bank l.initial.count.terms (sides_of (take l.i (numbered (condition_of (terms_over v l.given.inputs.now (map term_in l.given.terms.now)) l.answers) 0 l.questions))) l.bank l.count.terms l.known
-    × Listed l.bank l.count.terms (numbered (condition_of (terms_over v l.given.inputs.now (map term_in l.given.terms.now)) l.answers) 0 l.questions) l.i l.list)
+    × Lent l.initial.memory l.memory
+    × ((v : List Term) → Over v l.initial.memory.bank.now l.initial.memory.count.now.terms l.given.vector.now l.given.inputs.now
+    → Started (terms_over v l.given.inputs.now (map term_in l.given.terms.now)) l.initial.memory.bank.now l.initial.memory.count.now.terms l.initial.memory.known
+    → Walked (terms_over v l.given.inputs.now (map term_in l.given.terms.now)) v l.given.vector.now l.given.inputs.now l.initial.memory.bank.now l.initial.memory.count.now.terms (sides_of (take l.i (numbered (condition_of (terms_over v l.given.inputs.now (map term_in l.given.terms.now)) l.answers) 0 l.questions))) l.memory.bank.now l.memory.count.now.terms l.memory.known
+    × Listed l.memory.bank.now l.memory.count.now.terms (numbered (condition_of (terms_over v l.given.inputs.now (map term_in l.given.terms.now)) l.answers) 0 l.questions) l.i l.list)
