@@ -20,38 +20,40 @@ pub(crate) fn sign_of(answer: bool) -> Sign
     if answer { Sign::Equal } else { Sign::Different }
 }
 
-fn condition_of(
-    given: Given<'_>,
-    memory: &mut Memory<'_>,
-    equation: Equation,
-    answer: bool,
-) -> Result<Condition, TableFault>
-    ensures lent { Lent memory.old memory.new }
-    ensures condition { Walks given.entry memory.old (λ v values. sides_of (literal_for values equation answer ∷ [])) memory.new (λ rs n v values. Stands rs n (literal_for values equation answer)) result }
-{
-    let left = given.place_of(memory, equation.left)?;
-    let right = given.place_of(memory, equation.right)?;
-    let sign = sign_of(answer);
-    Ok(Condition { left, right, sign })
-}
-
-/// The conditions of the questions with their answers.
-pub(crate) fn ask(
-    given: Given<'_>,
-    memory: &mut Memory<'_>,
-    questions: &[Equation],
-    answers: &[bool],
-) -> Result<[Condition; 22], TableFault>
-    requires { length questions.now ≤ 22 }
-    ensures lent { Lent memory.old memory.new }
-    ensures conditions { Walks given.entry memory.old (λ v values. sides_of (numbered (condition_of values answers.now) 0 questions.now)) memory.new (λ rs n v values. Listed rs n (numbered (condition_of values answers.now) 0 questions.now) (length questions.now)) result }
-{
-    let mut list = [Condition::BLANK; MOST_CANDIDATE_CONDITIONS];
-    for (i, question) in questions.iter().enumerate() {
-        let answer = at_or(answers, i, false);
-        list[i] = condition_of(given, memory, *question, answer)?;
+impl Given<'_> {
+    fn condition_of(
+        self,
+        memory: &mut Memory<'_>,
+        equation: Equation,
+        answer: bool,
+    ) -> Result<Condition, TableFault>
+        ensures lent { Lent memory.old memory.new }
+        ensures condition { Walks self.entry memory.old (λ v values. sides_of (literal_for values equation answer ∷ [])) memory.new (λ rs n v values. Stands rs n (literal_for values equation answer)) result }
+    {
+        let left = self.place_of(memory, equation.left)?;
+        let right = self.place_of(memory, equation.right)?;
+        let sign = sign_of(answer);
+        Ok(Condition { left, right, sign })
     }
-    Ok(list)
+
+    /// The conditions of the questions with their answers.
+    pub(crate) fn ask(
+        self,
+        memory: &mut Memory<'_>,
+        questions: &[Equation],
+        answers: &[bool],
+    ) -> Result<[Condition; 22], TableFault>
+        requires { length questions.now ≤ 22 }
+        ensures lent { Lent memory.old memory.new }
+        ensures conditions { Walks self.entry memory.old (λ v values. sides_of (numbered (condition_of values answers.now) 0 questions.now)) memory.new (λ rs n v values. Listed rs n (numbered (condition_of values answers.now) 0 questions.now) (length questions.now)) result }
+    {
+        let mut list = [Condition::BLANK; MOST_CANDIDATE_CONDITIONS];
+        for (i, question) in questions.iter().enumerate() {
+            let answer = at_or(answers, i, false);
+            list[i] = self.condition_of(memory, *question, answer)?;
+        }
+        Ok(list)
+    }
 }
 
 /// The row's own conditions behind the first `asked`.

@@ -9,11 +9,10 @@ ghost use Rattle.candidates.specs.Outcome.{Lists, StandsFor};
 ghost use Rattle.candidates.specs.Working.{Walks, Lent, Added, Joined};
 
 use crate::answers::answers_of;
-use crate::asking::{append, ask};
+use crate::asking::append;
 use crate::conditions::Conditions;
 use crate::instantiating::{Given, MOST_SHEET_TERMS, Memory};
 use crate::resolving::resolve;
-use crate::successor::next_vector;
 use fault::TableFault;
 use rows::{RowRecord, bits_of};
 use sheet::{Equation, Reading, Sheet};
@@ -37,7 +36,7 @@ fn conditions_of(
     ensures conditions { Walks given.entry memory.old (λ v values. sides_of (numbered (condition_of values answers.now) 0 (sheet_of sheet.now).questions)) memory.new (λ rs n v values. Joined rs n (numbered (condition_of values answers.now) 0 (sheet_of sheet.now).questions) own.now) result }
 {
     let questions: &[Equation] = &sheet.parts.questions;
-    let list = ask(given, memory, questions, answers)?;
+    let list = given.ask(memory, questions, answers)?;
     Ok(append(list, questions.len(), own))
 }
 
@@ -92,7 +91,7 @@ pub(crate) fn build<'a>(
     let bits = &row.bits[..bits_of(sheet)];
     let resolved = resolve(sheet, bits, answers);
     let readings: &[Reading] = &sheet.parts.readings;
-    let vector = next_vector(given, &mut memory, readings, &resolved.chosen)?;
+    let vector = given.next_vector(&mut memory, readings, &resolved.chosen)?;
     let bits = sheet.next_bits(bits, &resolved.truths);
     let Conditions { list, used } = conditions;
     Ok(RowRecord {

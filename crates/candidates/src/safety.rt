@@ -12,7 +12,7 @@ ghost use Rattle.candidates.specs.Judged.{Judged};
 ghost use Rattle.candidates.specs.Outcome.{Kept};
 
 use crate::answers::answers_of;
-use crate::asking::{append, ask, sign_of};
+use crate::asking::{append, sign_of};
 use crate::conditions::Conditions;
 use crate::instantiating::{Given, MOST_SHEET_TERMS, Memory};
 use closure::decide;
@@ -100,7 +100,7 @@ fn judge<'a>(
         known: [None; MOST_SHEET_TERMS],
     };
     let first = &answers_of(0)[..claims.len()];
-    let list = ask(given, &mut memory, claims, first)?;
+    let list = given.ask(&mut memory, claims, first)?;
     let own = &form.conditions[..form.used as usize];
     let conditions = append(list, claims.len(), own);
     let bits = &form.bits[..bits_of(sheet)];
