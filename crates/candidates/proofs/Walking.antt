@@ -22,10 +22,7 @@ use Rattle.forms.specs.Candidate.{no_term, term_over, terms_over}
 use Rattle.candidates.specs.declared.instantiating.Memory.{Memory}
 use Rattle.candidates.specs.Working.{Recalls, Started, Over, Placed, Walked, Lent}
 
--- the memory that was lent
-pub lent_all : (m : Memory) → Lent m m
-lent_all m = (refl, refl, refl)
-
+-- the memory that was lent, over two calls
 pub lent_more : (a b c : Memory) → Lent a b → Lent b c → Lent a c
 lent_more a b c x y = (y.0 ∙ x.0, y.1 ∙ x.1, y.2 ∙ x.2)
 

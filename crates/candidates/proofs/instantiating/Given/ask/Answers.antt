@@ -1,10 +1,10 @@
-use Rattle.std.proofs.Common.{◌≡◌, ◌<◌, map, length, get_or, take, sym, refl, ap, ◌∙◌, subst, arith}
+use Rattle.std.proofs.Common.{◌≡◌, ◌<◌, map, length, get_or, take, sym, ap, ◌∙◌, subst, arith}
 use Rattle.sheet.specs.Runs.{numbered}
 use Rattle.sheet.specs.Stored.{term_in}
 use Rattle.forms.specs.Candidate.{terms_over, condition_of}
 use Rattle.forms.specs.Counted.{sides_of}
 use Rattle.candidates.specs.Working.{literal_for, no_literal}
-use Rattle.candidates.proofs.Walking.{walked_start, lent_all, lent_more}
+use Rattle.candidates.proofs.Walking.{lent_more}
 use Rattle.std.proofs.lemmas.List.{take_all, length-set}
 use Rattle.banks.specs.Gains.{Gained}
 use Rattle.sheet.proofs.Numbering.{numbered_at, numbered-length}
@@ -24,14 +24,6 @@ returns-in_err-list-clause-conditions c v over started =
     let x = c.in_err-list.ensures.condition v w.0.over w.0.started in
     added_break c.args.memory.now.bank.now c.args.memory.now.count.now.terms (sides_of all) c.condition_of.new.memory.bank.now c.condition_of.new.memory.count.now.terms _ c.in_err-list.field-0.0 c.from_residual.result x.0
     (asked_break values v c.args.self.vector.now c.args.self.inputs.now c.args.memory.now.bank.now c.args.memory.now.count.now.terms i c.loop-i.memory.bank.now c.loop-i.memory.count.now.terms c.loop-i.memory.known c.condition_of.new.memory.bank.now c.condition_of.new.memory.count.now.terms c.condition_of.new.memory.known all l inside' is w.0 x.1 x.2) c.from_residual.ensures.1
-
-pub loop-i-init : goal.loop-i-init
-loop-i-init c = (
-  refl,
-  lent_all c.args.memory.now,
-  λ v over started.
-      (walked_start (terms_over v c.args.self.inputs.now (map term_in c.args.self.terms.now)) v c.args.self.vector.now c.args.self.inputs.now c.args.memory.now.bank.now c.args.memory.now.count.now.terms c.args.memory.now.known over started, λ k lt. absurd (omega arith)),
-)
 
 pub loop-i-preserved : goal.loop-i-preserved
 loop-i-preserved c = (
@@ -58,9 +50,3 @@ returns-clause-conditions c v over started =
     let end : c.loop-i.i ≡ length c.args.questions.now = omega arith in
     let whole : take c.loop-i.i all ≡ all = take_all c.loop-i.i all (omega (arith, numbered-length (condition_of values c.args.answers.now) 0 c.args.questions.now)) in
     (subst (λ ls. Gained c.args.memory.now.bank.now c.args.memory.now.count.now.terms (sides_of ls) c.loop-i.memory.bank.now c.loop-i.memory.count.now.terms) whole w.0.gained, record { made = λ k lt. w.1 k (omega arith); recalled = w.0.started.recalled })
-
-pub returns-in_err-list-clause-lent : goal.returns-in_err-list-clause-lent
-returns-in_err-list-clause-lent c = lent_more c.args.memory.now c.loop-i.memory c.condition_of.new.memory c.loop-i.invariant.1 c.condition_of.ensures.lent
-
-pub returns-clause-lent : goal.returns-clause-lent
-returns-clause-lent c = c.loop-i.invariant.1

@@ -1,4 +1,4 @@
-use Rattle.std.proofs.Common.{◌≡◌, ℕ, ◌<◌, map, length, get_or, take, sym, refl, ◌∙◌, subst, arith}
+use Rattle.std.proofs.Common.{◌≡◌, ℕ, ◌<◌, map, length, get_or, take, sym, ◌∙◌, subst, arith}
 use Rattle.std.proofs.lemmas.List.{length-set, take_all}
 use Rattle.sheet.specs.declared.syntax.Reading.{Reading}
 use Rattle.sheet.specs.Runs.{numbered}
@@ -8,13 +8,10 @@ use Rattle.terms.specs.Terms.{Term}
 use Rattle.banks.specs.Gains.{Gained}
 use Rattle.forms.specs.Candidate.{no_term, terms_over}
 use Rattle.candidates.specs.Working.{next_over}
-use Rattle.candidates.proofs.Walking.{walked_start, lent_all, lent_more}
+use Rattle.candidates.proofs.Walking.{lent_more}
 use Rattle.sheet.proofs.Numbering.{numbered_at, numbered-length}
 use Rattle.candidates.proofs.Listing.{added_break, placed_more, placed_break}
 use Rattle.candidates.proofs.instantiating.Given.next_vector.Goals as goal
-
-pub loop-k-init : goal.loop-k-init
-loop-k-init c = (refl, lent_all c.args.memory.now, λ v over started. (walked_start (terms_over v c.args.self.inputs.now (map term_in c.args.self.terms.now)) v c.args.self.vector.now c.args.self.inputs.now c.args.memory.now.bank.now c.args.memory.now.count.now.terms c.args.memory.now.known over started, λ k lt. absurd (omega arith)))
 
 pub returns-in_err-out-clause-places : goal.returns-in_err-out-clause-places
 returns-in_err-out-clause-places c v over started =
@@ -61,9 +58,3 @@ returns-clause-places c v over started =
     let end : c.loop-k.k ≡ length c.args.readings.now = omega arith in
     let whole : take c.loop-k.k all ≡ all = take_all c.loop-k.k all (omega arith) in
     (subst (λ ts. Gained c.args.memory.now.bank.now c.args.memory.now.count.now.terms ts c.loop-k.memory.bank.now c.loop-k.memory.count.now.terms) whole w.0.gained, record { made = λ k lt. w.1 k (omega arith); recalled = w.0.started.recalled })
-
-pub returns-in_err-out-clause-lent : goal.returns-in_err-out-clause-lent
-returns-in_err-out-clause-lent c = lent_more c.args.memory.now c.loop-k.memory c.next_place.new.memory c.loop-k.invariant.1 c.next_place.ensures.lent
-
-pub returns-clause-lent : goal.returns-clause-lent
-returns-clause-lent c = c.loop-k.invariant.1
