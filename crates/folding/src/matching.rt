@@ -13,7 +13,7 @@ ghost use Rattle.folding.specs.Matched.{Comparable, MatchCovering, Matched, Weig
 
 use crate::change::Change;
 use crate::renaming::Renaming;
-use crate::rewriting::rewrite_conditions;
+use crate::rewriting::Rewriting;
 use crate::view::View;
 use closure::entails;
 use fault::TableFault;
@@ -88,10 +88,15 @@ fn compare_conditions(
     ensures stays { Stays count.old.terms bank.old bank.new }
 {
     let change = Change::Rename(renaming.to);
-    let mut known = [None; MOST_TERMS];
+    let mut rewriting = Rewriting {
+        bank: &mut *bank,
+        count: &mut *count,
+        change: &change,
+        known: [None; MOST_TERMS],
+    };
     let mut renamed = older.conditions;
     let used = older.used as usize;
-    rewrite_conditions(bank, count, &change, &mut renamed[..used], &mut known)?;
+    rewriting.rewrite_conditions(&mut renamed[..used])?;
     let view = View {
         records: bank,
         count: *count,
