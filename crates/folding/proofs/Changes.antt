@@ -16,7 +16,7 @@ use Rattle.terms.proofs.Same.{same_self, same_true}
 use Rattle.terms.proofs.Standing.{term_at-ordered}
 use Rattle.banks.specs.Room.{Throughout, HasAll}
 use Rattle.banks.specs.Gains.{Gained, Overfull}
-use Rattle.banks.proofs.Gaining.{gained_none, gained_held, gained_more, gained_as, gained_interned, overfull_interned, overfull_later, overfull_as, all_left}
+use Rattle.banks.proofs.Gaining.{gained_held, gained_more, gained_as, gained_interned, overfull_interned, overfull_later, overfull_as, all_left}
 use Rattle.folding.specs.declared.change.Change.{Change}
 use Rattle.folding.specs.declared.change.Change.TheVariants.{Replace, Rename}
 use Rattle.folding.specs.Rewriting.{changed, arg, Suits, renamed_name, stopped, Known, AddedAt, Refused, Adding}

@@ -7,11 +7,11 @@ use Rattle.fault.specs.declared.TableFault.{TableFault}
 use Rattle.terms.specs.declared.Condition.{Condition}
 use Rattle.terms.specs.declared.TermRecord.{TermRecord}
 use Rattle.terms.specs.Terms.{Term}
-use Rattle.terms.specs.Bank.{Bank, Extends}
+use Rattle.terms.specs.Bank.{Extends}
 use Rattle.closure.specs.Labels.{no_condition}
 use Rattle.banks.specs.Room.{Throughout, HasAll}
 use Rattle.banks.specs.Gains.{Gained}
-use Rattle.banks.proofs.Gaining.{gained_none, all_left, overfull_as}
+use Rattle.banks.proofs.Gaining.{all_left, overfull_as}
 use Rattle.folding.specs.declared.change.Change.{Change}
 use Rattle.folding.specs.Rewriting.{arg, Suits, Adding, Became, NoRoom, PlacesChanged, side_places, ConditionsChanged}
 use Rattle.folding.proofs.Changes.{walked_more, walked_at, walked_broken}
@@ -61,13 +61,6 @@ pub became_later : (rs : List TermRecord) (change : Change) (old : ℕ) (rs₁ r
 became_later rs change old rs₁ rs₂ n₁ n₂ new e h = (omega (arith, h.0, e.more), (e.stays new h.0).1 ∙ h.1)
 
 module _ (rs : List TermRecord) (n : ℕ) (change : Change) (suits : Suits n change) where
-  pub places_none : Bank rs n → (old : List ℕ) → PlacesChangedTo rs n change 0 old old rs n
-  places_none b old = record { gained = gained_none rs n b; became = λ k lt. absurd (omega arith); rest = λ k le. refl }
-
-  pub conditions_none : Bank rs n → (old : List Condition) → ConditionsChangedTo rs n change 0 old old rs n
-  conditions_none b old =
-      record { gained = gained_none rs n b; lefts = λ k lt. absurd (omega arith); rights = λ k lt. absurd (omega arith); signs = λ k lt. absurd (omega arith); rest = λ k le. refl }
-
   module _ (k : ℕ) (old new : List ℕ) (rs₁ : List TermRecord) (n₁ : ℕ) (h : PlacesChangedTo rs n change k old new rs₁ n₁) (change₁ : Change) (same_change : change₁ ≡ change) (short : k < length old) (here : get_or old k 0 < n) (rs₂ : List TermRecord) (n₂ : ℕ) where
     pub places_more : k < length new → (p : ℕ) → Adding rs₁ n₁ (arg rs₁ change₁ (get_or new k 0)) rs₂ n₂ (Ok p) → PlacesChangedTo rs n change (k + 1) old (set new k p) rs₂ n₂
     places_more room p r₀ =
