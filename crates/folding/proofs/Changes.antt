@@ -8,7 +8,7 @@ use Rattle.fault.specs.declared.TableFault.{TableFault}
 use Rattle.terms.specs.declared.Node.{Node}
 use Rattle.terms.specs.declared.Node.TheVariants.{Name, Constant, Unary, Binary, Ternary}
 use Rattle.terms.specs.declared.TermRecord.{TermRecord}
-use Rattle.terms.specs.Terms.{Term, name, unary, binary, ternary, same, replaced, renamed}
+use Rattle.terms.specs.Terms.{Term, name, same, replaced, renamed}
 use Rattle.terms.specs.Bank.{Bank, Extends, Interned, Filed, Fit, node_at, term_of, term_at}
 use Rattle.terms.proofs.Filing.{extends_none, extends_more}
 use Rattle.terms.proofs.Changing.{replaced_of}
@@ -16,7 +16,7 @@ use Rattle.terms.proofs.Same.{same_self, same_true}
 use Rattle.terms.proofs.Standing.{term_at-ordered}
 use Rattle.banks.specs.Room.{Throughout, HasAll}
 use Rattle.banks.specs.Gains.{Gained, Overfull}
-use Rattle.banks.proofs.Gaining.{gained_held, gained_more, gained_as, gained_interned, overfull_interned, overfull_later, overfull_as, all_left}
+use Rattle.banks.proofs.Gaining.{gained_none, gained_held, gained_more, gained_as, gained_interned, overfull_interned, overfull_later, overfull_as, all_left}
 use Rattle.folding.specs.declared.change.Change.{Change}
 use Rattle.folding.specs.declared.change.Change.TheVariants.{Replace, Rename}
 use Rattle.folding.specs.Rewriting.{changed, arg, Suits, renamed_name, stopped, Known, AddedAt, Refused, Adding}
@@ -177,13 +177,66 @@ broken_off rs n change place some more inside rs' n' e h (Err x) is =
     map-append-arg f [] ys = refl
     map-append-arg f (x ∷ xs) ys = ap (λ l. f x ∷ l) (map-append-arg f xs ys)
 
+-- a node's places
+abbrev pub places_of : Node → List ℕ
+places_of (Name x) = []
+places_of (Constant f) = []
+places_of (Unary f a) = a ∷ []
+places_of (Binary f a b) = a ∷ b ∷ []
+places_of (Ternary f a b c) = a ∷ b ∷ c ∷ []
+
+-- a place of the bank where the change looks further down
+pub record Site (rs : List TermRecord) (n : ℕ) (change : Change) (place : ℕ) (node : Node) : Type 0 where
+  pub fit : Fit n node
+  pub is : arg rs change place ≡ term_of (arg rs change) node
+
+-- the places that are done, and the bank and the change as they are then
+pub record Underway (rs : List TermRecord) (n : ℕ) (change : Change) (done : List ℕ) (rs' : List TermRecord) (n' : ℕ) (change' : Change) : Type 0 where
+  pub gained : Gained rs n (map (arg rs change) done) rs' n'
+  pub same_change : change' ≡ change
+
+fit_later : (m n : ℕ) (node : Node) → m < n → Fit m node → Fit n node
+fit_later m n (Name x) lt h = h
+fit_later m n (Constant f) lt h = h
+fit_later m n (Unary f a) lt h = omega (arith, lt, h)
+fit_later m n (Binary f a b) lt h = (omega (arith, lt, h.0), omega (arith, lt, h.1))
+fit_later m n (Ternary f a b c) lt h = (omega (arith, lt, h.0), omega (arith, lt, h.1), omega (arith, lt, h.2))
+
 -- the changed arguments stand in the changed term
-module _ (rs : List TermRecord) (change : Change) (place f : ℕ) where
-  pub unary_has : (a : ℕ) → arg rs change place ≡ unary f (arg rs change a) → (all : List Term) → HasAll all (arg rs change place ∷ []) → HasAll all (map (arg rs change) (a ∷ []))
-  unary_has a is all h = ((subst (Throughout (Has all)) is h.0).1, tt)
+places_have : (at : ℕ → Term) (t : Term) (node : Node) → t ≡ term_of at node → (all : List Term) → HasAll all (t ∷ []) → HasAll all (map at (places_of node))
+places_have at t (Name x) is all h = tt
+places_have at t (Constant f) is all h = tt
+places_have at t (Unary f a) is all h = ((subst (Throughout (Has all)) is h.0).1, tt)
+places_have at t (Binary f a b) is all h = let w = subst (Throughout (Has all)) is h.0 in (w.1, (w.2, tt))
+places_have at t (Ternary f a b c) is all h = let w = subst (Throughout (Has all)) is h.0 in (w.1, (w.2, (w.3, tt)))
 
-  pub binary_has : (a b : ℕ) → arg rs change place ≡ binary f (arg rs change a) (arg rs change b) → (all : List Term) → HasAll all (arg rs change place ∷ []) → HasAll all (map (arg rs change) (a ∷ b ∷ []))
-  binary_has a b is all h = let w = subst (Throughout (Has all)) is h.0 in (w.1, (w.2, tt))
+module _ {rs : List TermRecord} {n : ℕ} {change : Change} (suits : Suits n change) where
+  pub site : Bank rs n → {place : ℕ} → place < n → stopped change place (node_at rs place) ≡ None → {node : Node} → node_at rs place ≡ node → Site rs n change place node
+  site b {place} lt none {node} is =
+      record { fit = fit_later place n node lt (subst (Fit place) is (b.ordered.fit place lt)); is = stopped_none rs n b place lt change suits none ∙ ap (term_of (arg rs change)) is }
 
-  pub ternary_has : (a b c : ℕ) → arg rs change place ≡ ternary f (arg rs change a) (arg rs change b) (arg rs change c) → (all : List Term) → HasAll all (arg rs change place ∷ []) → HasAll all (map (arg rs change) (a ∷ b ∷ c ∷ []))
-  ternary_has a b c is all h = let w = subst (Throughout (Has all)) is h.0 in (w.1, (w.2, (w.3, tt)))
+  pub underway_none : Bank rs n → Underway rs n change [] rs n change
+  underway_none b = record { gained = gained_none rs n b; same_change = refl }
+
+  module _ {done : List ℕ} {rs₁ : List TermRecord} {n₁ : ℕ} {change₁ : Change} (w : Underway rs n change done rs₁ n₁ change₁) where
+    pub underway_more : {a : ℕ} → a < n → {change₂ : Change} → change₂ ≡ change₁ → {p n₂ : ℕ} {rs₂ : List TermRecord} → AddedAt rs₁ n₁ (arg rs₁ change₁ a) rs₂ n₂ p → Underway rs n change (done ++ a ∷ []) rs₂ n₂ change₂
+    underway_more {a} lt same_change {p} {n₂} {rs₂} h =
+        record { gained = walked_more rs n change suits done rs₁ n₁ w.gained change₁ w.same_change a lt rs₂ n₂ p h; same_change = same_change ∙ w.same_change }
+
+    pub underway_at : {a : ℕ} → a < n → {p n₂ : ℕ} {rs₂ : List TermRecord} → AddedAt rs₁ n₁ (arg rs₁ change₁ a) rs₂ n₂ p → term_at rs₂ p ≡ arg rs change a
+    underway_at {a} lt {p} {n₂} {rs₂} h = walked_at rs n change suits done rs₁ n₁ w.gained change₁ w.same_change a lt rs₂ n₂ p h
+
+    module _ {place : ℕ} (lt : place < n) {node : Node} (at : Site rs n change place node) where
+      pub underway_is : arg rs₁ change₁ place ≡ term_of (arg rs change) node
+      underway_is = is_arg rs n change suits done rs₁ n₁ w.gained change₁ w.same_change place lt rs₁ n₁ ∙ at.is
+
+      -- no room for an argument
+      pub underway_broken : {a : ℕ} → a < n → (more : List ℕ) → (done ++ a ∷ []) ++ more ≡ places_of node → {e : TableFault} {n' : ℕ} {rs' : List TermRecord} → Refused rs₁ n₁ (arg rs₁ change₁ a ∷ []) rs' n' e → (r : Result ℕ TableFault) → IsErrAnd r (λ x. x ≡ e) → Adding rs n (arg rs change place) rs' n' r
+      underway_broken {a} inside more are {e} {n'} {rs'} h r fails =
+          broken_off rs n change place (done ++ a ∷ []) more (λ all m. subst (λ l. HasAll all (map (arg rs change) l)) (sym are) (places_have (arg rs change) (arg rs change place) node at.is all m)) rs' n' e
+          (walked_broken rs n change suits done rs₁ n₁ w.gained change₁ w.same_change a inside rs' n' e h) r fails
+
+      -- the term itself, after its arguments
+      pub underway_settled : done ≡ places_of node → (rs' : List TermRecord) (n' : ℕ) (r : Result ℕ TableFault) → Adding rs₁ n₁ (arg rs₁ change₁ place) rs' n' r → Adding rs n (arg rs change place) rs' n' r
+      underway_settled are rs' n' r h =
+          settled rs n change suits done place lt (λ all m. subst (λ l. HasAll all (map (arg rs change) l)) (sym are) (places_have (arg rs change) (arg rs change place) node at.is all m)) rs₁ n₁ w.gained change₁ w.same_change rs' n' r h
