@@ -65,12 +65,9 @@ impl View<'_> {
         requires { Between self.now.count.terms conditions.now (length conditions.now) }
         ensures { (vector : List Term) → NamesIn names vector → Decides result (AllByRecursion (λ c. is_named vector c ≡ true) (literals self.now.records.now conditions.now)) }
     {
-        for condition in conditions {
-            if !self.is_named(names, *condition) {
-                return false;
-            }
-        }
-        true
+        conditions
+            .iter()
+            .all(|condition| self.is_named(names, *condition))
     }
 }
 
