@@ -42,6 +42,7 @@ pub(crate) struct Rewriting<'a> {
     ghost is_known: { Known bank.now count.now.terms change.now known } by { Known-prop bank.now count.now.terms change.now known },
 }
 
+// Each method keeps the references to the bank and the count, so that who lent them learns what became of both.
 impl Rewriting<'_> {
     /// The place of the term of `node`, which may be that of `place` itself; added where it is new.
     fn add(&mut self, place: u16, node: Node) -> Result<u16, TableFault>
