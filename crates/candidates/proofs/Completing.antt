@@ -22,7 +22,7 @@ use Rattle.forms.specs.Counted.{sides_of, terms_in}
 use Rattle.rows.specs.Records.{row_in, Between, Sound}
 use Rattle.candidates.specs.declared.conditions.Conditions.{Conditions}
 use Rattle.candidates.specs.Outcome.{Lists, StandsFor}
-use Rattle.candidates.specs.Working.{Recalls, Started, Over, Added, Made, Vectored, Joined, Walks, next_over}
+use Rattle.candidates.specs.Working.{Recalls, Started, Over, Added, Made, Vectored, Joined, WalksOver, next_over}
 use Rattle.candidates.proofs.Walking.{over_later}
 use Rattle.sheet.proofs.Numbering.{numbered-length}
 use Rattle.candidates.proofs.Composing.{recalls_none, vectored_map, joined_lists, gained_both, overfull_both, overfull_first, overfull_second, gained_row, joined_later}
@@ -79,10 +79,10 @@ module _ (s : System) (rs : List TermRecord) (n : ℕ) (row : RowRecord) (sound 
 
     module _ (rs₁ : List TermRecord) (n₁ : ℕ) (known₁ : List (Option ℕ)) where
       pub conditions_joined : (mine : List Condition) → mine ≡ take row.used row.conditions → (r : Result Conditions TableFault)
-          → Walks entries places inputs rs n (replicate 64 None) (λ v values. sides_of (numbered (condition_of values answers) 0 s.questions)) rs₁ n₁ known₁ (λ v values. Joined rs₁ n₁ (numbered (condition_of values answers) 0 s.questions) mine) r
+          → WalksOver entries places inputs rs n (replicate 64 None) (λ v values. sides_of (numbered (condition_of values answers) 0 s.questions)) rs₁ n₁ known₁ (λ v values. Joined rs₁ n₁ (numbered (condition_of values answers) 0 s.questions) mine) r
           → Added rs n (sides_of asked) rs₁ n₁ (Made over rs₁ n₁ known₁ (Joined rs₁ n₁ asked own)) r
       conditions_joined mine e r walks =
-          let walks' = subst (λ ns. Walks entries places ns rs n (replicate 64 None) (λ v values. sides_of (numbered (condition_of values answers) 0 s.questions)) rs₁ n₁ known₁ (λ v values. Joined rs₁ n₁ (numbered (condition_of values answers) 0 s.questions) mine) r) known-inputs walks in
+          let walks' = subst (λ ns. WalksOver entries places ns rs n (replicate 64 None) (λ v values. sides_of (numbered (condition_of values answers) 0 s.questions)) rs₁ n₁ known₁ (λ v values. Joined rs₁ n₁ (numbered (condition_of values answers) 0 s.questions) mine) r) known-inputs walks in
           let x = walks' (row_in s rs row).vector given_over (row_started (terms_over (row_in s rs row).vector names (map term_in entries))) in
           subst (λ cs. Added rs n (sides_of asked) rs₁ n₁ (Made over rs₁ n₁ known₁ (Joined rs₁ n₁ asked cs)) r) e
           (subst (λ bs. Added rs n (sides_of (numbered (condition_of over bs) 0 s.questions)) rs₁ n₁ (Made over rs₁ n₁ known₁ (Joined rs₁ n₁ (numbered (condition_of over bs) 0 s.questions) mine)) r) known-answers
@@ -96,11 +96,11 @@ module _ (s : System) (rs : List TermRecord) (n : ℕ) (row : RowRecord) (sound 
       -- the vector, once the questions' terms are there
       module _ (g : Gained rs n (sides_of asked) rs₁ n₁) (recalled : Recalls over rs₁ n₁ known₁) (long : length rs₁ ≡ length rs) (rs₂ : List TermRecord) (n₂ : ℕ) (known₂ : List (Option ℕ)) where
         pub vector_placed : (picked : List ℕ) → ((k : ℕ) → get_or picked k 0 ≡ get_or (row_chosen s old names replies) k 0) → (readings : List Reading) → readings ≡ s.readings → (r : Result (List ℕ) TableFault)
-            → Walks entries places inputs rs₁ n₁ known₁ (λ v values. numbered (λ m x. next_over picked v values m x.next) 0 readings) rs₂ n₂ known₂ (λ v values. Vectored rs₂ n₂ (numbered (λ m x. next_over picked v values m x.next) 0 readings) (length readings)) r
+            → WalksOver entries places inputs rs₁ n₁ known₁ (λ v values. numbered (λ m x. next_over picked v values m x.next) 0 readings) rs₂ n₂ known₂ (λ v values. Vectored rs₂ n₂ (numbered (λ m x. next_over picked v values m x.next) 0 readings) (length readings)) r
             → Added rs₁ n₁ next.vector rs₂ n₂ (Made over rs₂ n₂ known₂ (Vectored rs₂ n₂ next.vector (length s.readings))) r
         vector_placed picked right readings is r walks =
             let start : Started (terms_over (row_in s rs row).vector names (map term_in entries)) rs₁ n₁ known₁ = record { bank = g.extends.bank; long = omega (arith, sound.long); recalled = subst (λ ts. Recalls (terms_over (row_in s rs row).vector names ts) rs₁ n₁ known₁) (sym known-terms) recalled } in
-            let walks' = subst (λ ns. Walks entries places ns rs₁ n₁ known₁ (λ v values. numbered (λ m x. next_over picked v values m x.next) 0 readings) rs₂ n₂ known₂ (λ v values. Vectored rs₂ n₂ (numbered (λ m x. next_over picked v values m x.next) 0 readings) (length readings)) r) known-inputs walks in
+            let walks' = subst (λ ns. WalksOver entries places ns rs₁ n₁ known₁ (λ v values. numbered (λ m x. next_over picked v values m x.next) 0 readings) rs₂ n₂ known₂ (λ v values. Vectored rs₂ n₂ (numbered (λ m x. next_over picked v values m x.next) 0 readings) (length readings)) r) known-inputs walks in
             let x = walks' (row_in s rs row).vector (over_later (row_in s rs row).vector rs rs₁ n n₁ places names g.extends given_over) start in
             subst (λ (pick : ℕ → ℕ). Added rs₁ n₁ (numbered (λ m y. or_kept (λ k. get_or over (pick k) no_term) (get_or (row_in s rs row).vector m no_term) y.next) 0 s.readings) rs₂ n₂ (Made over rs₂ n₂ known₂ (Vectored rs₂ n₂ (numbered (λ m y. or_kept (λ k. get_or over (pick k) no_term) (get_or (row_in s rs row).vector m no_term) y.next) 0 s.readings) (length s.readings))) r) (fun_ext right)
             (subst (λ (ys : List Reading). Added rs₁ n₁ (numbered (λ m y. next_over picked (row_in s rs row).vector over m y.next) 0 ys) rs₂ n₂ (Made over rs₂ n₂ known₂ (Vectored rs₂ n₂ (numbered (λ m y. next_over picked (row_in s rs row).vector over m y.next) 0 ys) (length ys))) r) is

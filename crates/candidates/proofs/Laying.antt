@@ -19,7 +19,7 @@ use Rattle.forms.specs.Candidate.{branch_answers, condition_of, terms_over}
 use Rattle.forms.specs.Safety.{claim_conditions}
 use Rattle.forms.specs.Counted.{sides_of, claim_terms}
 use Rattle.rows.specs.Records.{Sound, row_in}
-use Rattle.candidates.specs.Working.{Started, Over, Added, Made, Walks, Stands, Listed, no_literal}
+use Rattle.candidates.specs.Working.{Started, Over, Added, Made, WalksOver, Stands, Listed, no_literal}
 use Rattle.candidates.specs.Cases.{Laid, Unbroken, Searched}
 use Rattle.candidates.proofs.Composing.{recalls_none}
 use Rattle.candidates.proofs.Listing.{stands_later}
@@ -54,11 +54,11 @@ module _ (s : System) (rs : List TermRecord) (n : ℕ) (form : RowRecord) (sound
         ∙ ap₂ (λ l cs. numbered (condition_of (terms_over row.vector [] s.terms) l) 0 cs) answers_are claims_are
 
     module _ (rs' : List TermRecord) (n' : ℕ) (known' : List (Option ℕ)) (r : Result (List Condition) TableFault) where
-      asked_over : Walks entries places inputs rs n (replicate 64 None) (λ v values. sides_of (asked values)) rs' n' known' (λ v values. Listed rs' n' (asked values) (length claims)) r → Added rs n (sides_of (asked values)) rs' n' (Made values rs' n' known' (Listed rs' n' (asked values) (length claims))) r
+      asked_over : WalksOver entries places inputs rs n (replicate 64 None) (λ v values. sides_of (asked values)) rs' n' known' (λ v values. Listed rs' n' (asked values) (length claims)) r → Added rs n (sides_of (asked values)) rs' n' (Made values rs' n' known' (Listed rs' n' (asked values) (length claims))) r
       asked_over walks =
-          subst (λ ns. Walks entries places ns rs n (replicate 64 None) (λ v values. sides_of (asked values)) rs' n' known' (λ v values. Listed rs' n' (asked values) (length claims)) r) inputs_are walks row.vector (row_over places places_are) (row_started values 64)
+          subst (λ ns. WalksOver entries places ns rs n (replicate 64 None) (λ v values. sides_of (asked values)) rs' n' known' (λ v values. Listed rs' n' (asked values) (length claims)) r) inputs_are walks row.vector (row_over places places_are) (row_started values 64)
 
-    pub claims_asked : (rs' : List TermRecord) (n' : ℕ) (known' : List (Option ℕ)) (r : Result (List Condition) TableFault) → Walks entries places inputs rs n (replicate 64 None) (λ v values. sides_of (asked values)) rs' n' known' (λ v values. Listed rs' n' (asked values) (length claims)) r → Added rs n (claim_terms s row) rs' n' (Listed rs' n' (claim_conditions s row 0) (length claims)) r
+    pub claims_asked : (rs' : List TermRecord) (n' : ℕ) (known' : List (Option ℕ)) (r : Result (List Condition) TableFault) → WalksOver entries places inputs rs n (replicate 64 None) (λ v values. sides_of (asked values)) rs' n' known' (λ v values. Listed rs' n' (asked values) (length claims)) r → Added rs n (claim_terms s row) rs' n' (Listed rs' n' (claim_conditions s row 0) (length claims)) r
     claims_asked rs' n' known' (Ok list) walks =
         let h = asked_over rs' n' known' (Ok list) walks in
         (subst (λ ls. Gained rs n (sides_of ls) rs' n') first_case h.0, subst (λ ls. Listed rs' n' ls (length claims) list) first_case h.1.made)

@@ -29,6 +29,10 @@ pub added_break : {A : Type 0} (rs : List TermRecord) (n : ℕ) (ts : List Term)
 added_break rs n ts rs' n' P e (Ok a) is h by = absurd by
 added_break rs n ts rs' n' P e (Err y) is h by = (by ∙ is, h.0, h.1)
 
+-- what is true of the bank of a memory is true of the bank that was lent to it
+pub left : (Q : List TermRecord → ℕ → Type 0) (rs rs' : List TermRecord) (n n' : ℕ) → rs' ≡ rs → n' ≡ n → Q rs n → Q rs' n'
+left Q rs rs' n n' p q h = subst (λ m. Q rs' m) (sym q) (subst (λ xs. Q xs n) (sym p) h)
+
 -- what is true of each place stays true when one more is written
 pub set_more : {V : Type 0} (P : ℕ → V → Type 0) (xs : List V) (i : ℕ) (x d : V) → i < length xs → ((k : ℕ) → k < i → P k (get_or xs k d)) → P i x → (k : ℕ) → k < i + 1 → P k (get_or (set xs i x) k d)
 set_more P xs i x d inside old new =

@@ -19,7 +19,12 @@ use Rattle.banks.specs.Room.{HasAll, Throughout}
 use Rattle.banks.specs.Gains.{Gained, Overfull}
 use Rattle.banks.proofs.Gaining.{gained_none, gained_more, gained_as, gained_interned, gained_held, overfull_later, overfull_as, overfull_interned}
 use Rattle.forms.specs.Candidate.{no_term, term_over, terms_over}
-use Rattle.candidates.specs.Working.{Recalls, Started, Over, Placed, Walked}
+use Rattle.candidates.specs.declared.instantiating.Memory.{Memory}
+use Rattle.candidates.specs.Working.{Recalls, Started, Over, Placed, Walked, Lent}
+
+-- the memory that was lent, over two calls
+pub lent_more : (a b c : Memory) → Lent a b → Lent b c → Lent a c
+lent_more a b c x y = (y.0 ∙ x.0, y.1 ∙ x.1, y.2 ∙ x.2)
 
 -- what is noted of each number stays true when one more note is true
 pub noted_set : (P : ℕ → ℕ → Type 0) (known : List (Option ℕ)) (n v : ℕ) → ((k p : ℕ) → get_or known k None ≡ Some p → P k p) → P n v → (k p : ℕ) → get_or (set known n (Some v)) k None ≡ Some p → P k p

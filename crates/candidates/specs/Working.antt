@@ -21,6 +21,8 @@ use Rattle.rows.specs.Records.{row_in}
 use Rattle.forms.specs.Rows.{Row}
 use Rattle.candidates.specs.Outcome.{Accepted, Refused}
 use Rattle.candidates.specs.declared.conditions.Conditions.{Conditions}
+use Rattle.candidates.specs.declared.instantiating.Given.{Given}
+use Rattle.candidates.specs.declared.instantiating.Memory.{Memory}
 
 -- what is known of each number is the place of its term
 abbrev pub Recalls : List Term → List TermRecord → ℕ → List (Option ℕ) → Type 0
@@ -83,10 +85,23 @@ abbrev pub Vectored : List TermRecord → ℕ → List Term → ℕ → List ℕ
 Vectored rs n ts m ps = (k : ℕ) → k < m → At rs n (slice_index_or ts k no_term) (slice_index ps k)
 
 -- over any row that the places stand for: the terms ts of the row's vector and the sheet's terms over it are added, and P is true of what is made
-abbrev pub Walks : {A : Type 0} → List TermEntry → List ℕ → List ℕ → List TermRecord → ℕ → List (Option ℕ) → (List Term → List Term → List Term) → List TermRecord → ℕ → List (Option ℕ) → (List Term → List Term → A → Type 0) → Result A TableFault → Type 0
-Walks entries places names rs n known ts rs' n' known' P r =
+abbrev pub WalksOver : {A : Type 0} → List TermEntry → List ℕ → List ℕ → List TermRecord → ℕ → List (Option ℕ) → (List Term → List Term → List Term) → List TermRecord → ℕ → List (Option ℕ) → (List Term → List Term → A → Type 0) → Result A TableFault → Type 0
+WalksOver entries places names rs n known ts rs' n' known' P r =
     (v : List Term) → Over v rs n places names → Started (terms_over v names (map term_in entries)) rs n known
     → Added rs n (ts v (terms_over v names (map term_in entries))) rs' n' (Made (terms_over v names (map term_in entries)) rs' n' known' (P v (terms_over v names (map term_in entries)))) r
+
+-- the same of a memory before and after, where P is over the bank as it is then
+abbrev pub Walks : {A : Type 0} → Given → Memory → (List Term → List Term → List Term) → Memory → (List TermRecord → ℕ → List Term → List Term → A → Type 0) → Result A TableFault → Type 0
+Walks g old ts new P r =
+    WalksOver g.terms.now g.vector.now g.inputs.now old.bank.now old.count.now.terms old.known ts new.bank.now new.count.now.terms new.known (P new.bank.now new.count.now.terms) r
+
+-- the place of one term is made
+abbrev pub Places : Given → Memory → (List Term → List Term → Term) → Memory → Result ℕ TableFault → Type 0
+Places g old t new r = Walks g old (λ v values. t v values ∷ []) new (λ rs n v values. At rs n (t v values)) r
+
+-- the memory is what was lent, as long as it was
+abbrev pub Lent : Memory → Memory → Type 0
+Lent old new = (new.bank.ghost_name ≡ old.bank.ghost_name) × (new.count.ghost_name ≡ old.count.ghost_name) × (length new.bank.now ≡ length old.bank.now)
 
 -- the next term of reading n, from the terms that the choices come to
 abbrev pub next_over : List ℕ → List Term → List Term → ℕ → Option ℕ → Term

@@ -4,14 +4,14 @@ ghost use Rattle.sheet.specs.Runs.{numbered};
 ghost use Rattle.closure.specs.Labels.{no_condition};
 ghost use Rattle.forms.specs.Candidate.{sign_of, condition_of};
 ghost use Rattle.forms.specs.Counted.{sides_of};
-ghost use Rattle.candidates.specs.Working.{Walks, Stands, Listed, literal_for};
+ghost use Rattle.candidates.specs.Working.{Walks, Lent, Stands, Listed, literal_for};
 
 use crate::conditions::Conditions;
-use crate::instantiating::{Given, place_of};
+use crate::instantiating::{Given, Memory};
 use fault::TableFault;
 use rows::{MOST_CANDIDATE_CONDITIONS, at_or};
 use sheet::Equation;
-use terms::{Condition, Count, Sign, TermRecord};
+use terms::{Condition, Sign};
 
 // A function and no `From`, since the sign is a type of another crate.
 pub(crate) fn sign_of(answer: bool) -> Sign
@@ -20,40 +20,40 @@ pub(crate) fn sign_of(answer: bool) -> Sign
     if answer { Sign::Equal } else { Sign::Different }
 }
 
-fn condition_of(
-    given: Given<'_>,
-    bank: &mut [TermRecord],
-    count: &mut Count,
-    known: &mut [Option<u16>],
-    equation: Equation,
-    answer: bool,
-) -> Result<Condition, TableFault>
-    ensures { Walks given.entry.terms.now given.entry.vector.now given.entry.inputs.now bank.old count.old.terms known.old (λ v values. sides_of (literal_for values equation answer ∷ [])) bank.new count.new.terms known.new (λ v values. Stands bank.new count.new.terms (literal_for values equation answer)) result }
-{
-    let left = place_of(given, bank, count, known, equation.left)?;
-    let right = place_of(given, bank, count, known, equation.right)?;
-    let sign = sign_of(answer);
-    Ok(Condition { left, right, sign })
-}
-
-/// The conditions of the questions with their answers.
-pub(crate) fn ask(
-    given: Given<'_>,
-    bank: &mut [TermRecord],
-    count: &mut Count,
-    known: &mut [Option<u16>],
-    questions: &[Equation],
-    answers: &[bool],
-) -> Result<[Condition; 22], TableFault>
-    requires { length questions.now ≤ 22 }
-    ensures { Walks given.entry.terms.now given.entry.vector.now given.entry.inputs.now bank.old count.old.terms known.old (λ v values. sides_of (numbered (condition_of values answers.now) 0 questions.now)) bank.new count.new.terms known.new (λ v values. Listed bank.new count.new.terms (numbered (condition_of values answers.now) 0 questions.now) (length questions.now)) result }
-{
-    let mut list = [Condition::BLANK; MOST_CANDIDATE_CONDITIONS];
-    for (i, question) in questions.iter().enumerate() {
-        let answer = at_or(answers, i, false);
-        list[i] = condition_of(given, bank, count, known, *question, answer)?;
+impl Given<'_> {
+    fn condition_of(
+        self,
+        memory: &mut Memory<'_>,
+        equation: Equation,
+        answer: bool,
+    ) -> Result<Condition, TableFault>
+        ensures lent { Lent memory.old memory.new }
+        ensures condition { Walks self.entry memory.old (λ v values. sides_of (literal_for values equation answer ∷ [])) memory.new (λ rs n v values. Stands rs n (literal_for values equation answer)) result }
+    {
+        let left = self.place_of(memory, equation.left)?;
+        let right = self.place_of(memory, equation.right)?;
+        let sign = sign_of(answer);
+        Ok(Condition { left, right, sign })
     }
-    Ok(list)
+
+    /// The conditions of the questions with their answers.
+    pub(crate) fn ask(
+        self,
+        memory: &mut Memory<'_>,
+        questions: &[Equation],
+        answers: &[bool],
+    ) -> Result<[Condition; 22], TableFault>
+        requires { length questions.now ≤ 22 }
+        ensures lent { Lent memory.old memory.new }
+        ensures conditions { Walks self.entry memory.old (λ v values. sides_of (numbered (condition_of values answers.now) 0 questions.now)) memory.new (λ rs n v values. Listed rs n (numbered (condition_of values answers.now) 0 questions.now) (length questions.now)) result }
+    {
+        let mut list = [Condition::BLANK; MOST_CANDIDATE_CONDITIONS];
+        for (i, question) in questions.iter().enumerate() {
+            let answer = at_or(answers, i, false);
+            list[i] = self.condition_of(memory, *question, answer)?;
+        }
+        Ok(list)
+    }
 }
 
 /// The row's own conditions behind the first `asked`.

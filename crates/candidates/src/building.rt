@@ -6,14 +6,13 @@ ghost use Rattle.forms.specs.Candidate.{branch_answers, condition_of, candidate_
 ghost use Rattle.forms.specs.Counted.{sides_of, terms_in};
 ghost use Rattle.rows.specs.Records.{row_in, Sound};
 ghost use Rattle.candidates.specs.Outcome.{Lists, StandsFor};
-ghost use Rattle.candidates.specs.Working.{Walks, Added, Joined};
+ghost use Rattle.candidates.specs.Working.{Walks, Lent, Added, Joined};
 
 use crate::answers::answers_of;
-use crate::asking::{append, ask};
+use crate::asking::append;
 use crate::conditions::Conditions;
-use crate::instantiating::{Given, MOST_SHEET_TERMS};
+use crate::instantiating::{Given, MOST_SHEET_TERMS, Memory};
 use crate::resolving::resolve;
-use crate::successor::next_vector;
 use fault::TableFault;
 use rows::{RowRecord, bits_of};
 use sheet::{Equation, Reading, Sheet};
@@ -28,17 +27,16 @@ pub(crate) fn questions_of(sheet: &Sheet) -> usize
 fn conditions_of(
     sheet: &Sheet,
     given: Given<'_>,
-    bank: &mut [TermRecord],
-    count: &mut Count,
-    known: &mut [Option<u16>],
+    memory: &mut Memory<'_>,
     own: &[Condition],
     answers: &[bool],
 ) -> Result<Conditions, TableFault>
     requires { length own.now ≤ 16 }
-    ensures { Walks given.entry.terms.now given.entry.vector.now given.entry.inputs.now bank.old count.old.terms known.old (λ v values. sides_of (numbered (condition_of values answers.now) 0 (sheet_of sheet.now).questions)) bank.new count.new.terms known.new (λ v values. Joined bank.new count.new.terms (numbered (condition_of values answers.now) 0 (sheet_of sheet.now).questions) own.now) result }
+    ensures lent { Lent memory.old memory.new }
+    ensures conditions { Walks given.entry memory.old (λ v values. sides_of (numbered (condition_of values answers.now) 0 (sheet_of sheet.now).questions)) memory.new (λ rs n v values. Joined rs n (numbered (condition_of values answers.now) 0 (sheet_of sheet.now).questions) own.now) result }
 {
     let questions: &[Equation] = &sheet.parts.questions;
-    let list = ask(given, bank, count, known, questions, answers)?;
+    let list = given.ask(memory, questions, answers)?;
     Ok(append(list, questions.len(), own))
 }
 
@@ -58,9 +56,13 @@ pub(crate) fn build_conditions<'a>(
     let asked = questions_of(sheet);
     let answers = &answers_of(branch)[..asked];
     let given = Given::over(sheet, &row.vector, names);
-    let mut known = [None; MOST_SHEET_TERMS];
+    let mut memory = Memory {
+        bank,
+        count,
+        known: [None; MOST_SHEET_TERMS],
+    };
     let own = &row.conditions[..row.used as usize];
-    conditions_of(sheet, given, bank, count, &mut known, own, answers)
+    conditions_of(sheet, given, &mut memory, own, answers)
 }
 
 /// The row's candidate on the branch.
@@ -79,13 +81,17 @@ pub(crate) fn build<'a>(
     let asked = questions_of(sheet);
     let answers = &answers_of(branch)[..asked];
     let given = Given::over(sheet, &row.vector, names);
-    let mut known = [None; MOST_SHEET_TERMS];
+    let mut memory = Memory {
+        bank,
+        count,
+        known: [None; MOST_SHEET_TERMS],
+    };
     let own = &row.conditions[..row.used as usize];
-    let conditions = conditions_of(sheet, given, bank, count, &mut known, own, answers)?;
+    let conditions = conditions_of(sheet, given, &mut memory, own, answers)?;
     let bits = &row.bits[..bits_of(sheet)];
     let resolved = resolve(sheet, bits, answers);
     let readings: &[Reading] = &sheet.parts.readings;
-    let vector = next_vector(given, bank, count, &mut known, readings, &resolved.chosen)?;
+    let vector = given.next_vector(&mut memory, readings, &resolved.chosen)?;
     let bits = sheet.next_bits(bits, &resolved.truths);
     let Conditions { list, used } = conditions;
     Ok(RowRecord {

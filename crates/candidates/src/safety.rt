@@ -12,9 +12,9 @@ ghost use Rattle.candidates.specs.Judged.{Judged};
 ghost use Rattle.candidates.specs.Outcome.{Kept};
 
 use crate::answers::answers_of;
-use crate::asking::{append, ask, sign_of};
+use crate::asking::{append, sign_of};
 use crate::conditions::Conditions;
-use crate::instantiating::{Given, MOST_SHEET_TERMS};
+use crate::instantiating::{Given, MOST_SHEET_TERMS, Memory};
 use closure::decide;
 use fault::TableFault;
 use rows::{MOST_CONDITIONS, RowRecord, bits_of, is_sound};
@@ -94,12 +94,21 @@ fn judge<'a>(
 {
     let claims: &[Equation] = &sheet.parts.claims;
     let given = Given::over(sheet, &form.vector, &[]);
-    let mut known = [None; MOST_SHEET_TERMS];
+    let mut memory = Memory {
+        bank,
+        count,
+        known: [None; MOST_SHEET_TERMS],
+    };
     let first = &answers_of(0)[..claims.len()];
-    let list = ask(given, bank, count, &mut known, claims, first)?;
+    let list = given.ask(&mut memory, claims, first)?;
     let own = &form.conditions[..form.used as usize];
     let conditions = append(list, claims.len(), own);
     let bits = &form.bits[..bits_of(sheet)];
+    let Memory {
+        bank,
+        count,
+        known: _,
+    } = memory;
     is_unbroken(sheet, bank, *count, bits, conditions, labels)
 }
 

@@ -8,7 +8,7 @@ use Rattle.fault.specs.declared.TableFault.{TableFault}
 use Rattle.terms.specs.declared.Node.{Node}
 use Rattle.terms.specs.declared.Node.TheVariants.{Name, Constant, Unary, Binary, Ternary}
 use Rattle.terms.specs.declared.TermRecord.{TermRecord}
-use Rattle.terms.specs.Terms.{Term, name, unary, binary, ternary, same, replaced, renamed}
+use Rattle.terms.specs.Terms.{Term, name, same, replaced, renamed}
 use Rattle.terms.specs.Bank.{Bank, Extends, Interned, Filed, Fit, node_at, term_of, term_at}
 use Rattle.terms.proofs.Filing.{extends_none, extends_more}
 use Rattle.terms.proofs.Changing.{replaced_of}
@@ -19,7 +19,7 @@ use Rattle.banks.specs.Gains.{Gained, Overfull}
 use Rattle.banks.proofs.Gaining.{gained_none, gained_held, gained_more, gained_as, gained_interned, overfull_interned, overfull_later, overfull_as, all_left}
 use Rattle.folding.specs.declared.change.Change.{Change}
 use Rattle.folding.specs.declared.change.Change.TheVariants.{Replace, Rename}
-use Rattle.folding.specs.Rewriting.{changed, arg, Walked, Suits, renamed_name, stopped, Known, AddedAt, Refused, Adding, Filing, Rewritten}
+use Rattle.folding.specs.Rewriting.{changed, arg, Suits, renamed_name, stopped, Known, AddedAt, Refused, Adding}
 
 pub added_own : (rs : List TermRecord) (n place : ℕ) (node : Node) → Bank rs n → place < n → node_at rs place ≡ node → AddedAt rs n (term_of (term_at rs) node) rs n place
 added_own rs n place node b lt is =
@@ -30,6 +30,10 @@ pub added_interned : (rs rs' : List TermRecord) (n n' : ℕ) (t : Term) (node : 
 added_interned rs rs' n n' t node (Ok p) b long h f = record { gained = gained_interned rs rs' n n' t p h; inside = h.2; is = h.3 }
 added_interned rs rs' n n' t node (Err e) b long h f =
     record { fault = h.0; over = overfull_interned rs rs' n n' t e b long h; extends = subst (λ m. Extends rs n rs' m) (sym f.1) (subst (λ l. Extends rs n l n) (sym f.0) (extends_none rs n b)) }
+
+pub adding_extends : (rs rs' : List TermRecord) (n n' : ℕ) (t : Term) (r : Result ℕ TableFault) → Adding rs n t rs' n' r → Extends rs n rs' n'
+adding_extends rs rs' n n' t (Ok p) h = h.gained.extends
+adding_extends rs rs' n n' t (Err e) h = h.extends
 
 none_some : {X : Type 0} (x : X) → ◌≡◌ {A = Option X} None (Some x) → ⊥
 none_some x e = let z : ◌≡◌ {A = ℕ} 0 1 = cc in omega arith
@@ -49,18 +53,19 @@ module _ (rs rs' : List TermRecord) (n n' : ℕ) (e : Extends rs n rs' n') where
   pub known_later : (change : Change) → Suits n change → (known : List (Option ℕ)) → Known rs n change known → Known rs' n' change known
   known_later change suits known h i p is =
       let k = h i p is in
-      (omega (arith, k.0, e.more), omega (arith, k.1, e.more), (e.stays p k.1).1 ∙ (k.2 ∙ sym (arg_stays change suits i k.0)))
+      (omega (arith, k.0, e.more), omega (arith, k.1, e.more), ap (λ t. same t (arg rs' change i)) (e.stays p k.1).1 ∙ (ap (same (term_at rs p)) (arg_stays change suits i k.0) ∙ k.2))
 
 pub known_set : (rs : List TermRecord) (n : ℕ) (change : Change) (known : List (Option ℕ)) (place p : ℕ) → Known rs n change known → place < n → p < n → term_at rs p ≡ arg rs change place → Known rs n change (set known place (Some p))
 known_set rs n change known place p h lt inside is i q e =
     ⊎_elim (λ here. at here (eqb-true i place here)) (λ there. h i q (sym (get_or-set_other known place i (Some p) None (eqb-false i place there)) ∙ e)) (cases_Bool (eqb i place))
   where
-    at : eqb i place ≡ true → i ≡ place → (i < n) × (q < n) × (term_at rs q ≡ arg rs change i)
+    at : eqb i place ≡ true → i ≡ place → (i < n) × (q < n) × (same (term_at rs q) (arg rs change i) ≡ true)
     at _ same' =
         ⊎_elim
         (λ short. (let w : ◌≡◌ {A = Option ℕ} (Some p) (Some q) = sym (get_or-set_same known place (Some p) None short) ∙ (ap (λ k. get_or (set known place (Some p)) k None) (sym same') ∙ e) in
         let v : p ≡ q = cc in
-        (omega (arith, same'), omega (arith, v), ap (term_at rs) (sym v) ∙ (is ∙ ap (arg rs change) (sym same')))))
+        let u : term_at rs q ≡ arg rs change i = ap (term_at rs) (sym v) ∙ (is ∙ ap (arg rs change) (sym same')) in
+        (omega (arith, same'), omega (arith, v), ap (λ t. same t (arg rs change i)) u ∙ same_self (arg rs change i))))
         (λ past. h i q (ap (λ l. get_or l i None) (sym (set_past known place (Some p) past)) ∙ e))
         (cases_lt place (length known))
 
@@ -113,56 +118,55 @@ map-push-arg f [] a = refl
 map-push-arg f (x ∷ done) a = ap (λ l. f x ∷ l) (map-push-arg f done a)
 
 module _ (rs : List TermRecord) (n : ℕ) (change : Change) (suits : Suits n change) where
-  pub walked_none : Bank rs n → (known : List (Option ℕ)) → Known rs n change known → Walked rs n change [] rs n known
-  walked_none b known h = record { gained = gained_none rs n b; known = h }
+  module _ (done : List ℕ) (rs₁ : List TermRecord) (n₁ : ℕ) (g₁ : Gained rs n (map (arg rs change) done) rs₁ n₁) (change₁ : Change) (same_change : change₁ ≡ change) (a : ℕ) (lt : a < n) (rs₂ : List TermRecord) (n₂ : ℕ) where
+    pub is_arg : arg rs₁ change₁ a ≡ arg rs change a
+    is_arg = ap (λ c. arg rs₁ c a) same_change ∙ arg_stays rs rs₁ n n₁ g₁.extends change suits a lt
 
-  module _ (done : List ℕ) (rs₁ : List TermRecord) (n₁ : ℕ) (known₁ : List (Option ℕ)) (w : Walked rs n change done rs₁ n₁ known₁) (a : ℕ) (lt : a < n) (rs₂ : List TermRecord) (n₂ : ℕ) (known₂ : List (Option ℕ)) where
-    pub walked_more : (p : ℕ) → Rewritten rs₁ n₁ change a rs₂ n₂ known₂ (Ok p) → Walked rs n change (done ++ a ∷ []) rs₂ n₂ known₂
+    push_arg : map (arg rs change) done ++ arg rs₁ change₁ a ∷ [] ≡ map (arg rs change) (done ++ a ∷ [])
+    push_arg = ap (λ t. map (arg rs change) done ++ t ∷ []) is_arg ∙ map-push-arg (arg rs change) done a
+
+    pub walked_more : (p : ℕ) → Adding rs₁ n₁ (arg rs₁ change₁ a) rs₂ n₂ (Ok p) → Gained rs n (map (arg rs change) (done ++ a ∷ [])) rs₂ n₂
     walked_more p r =
-        let e = arg_stays rs rs₁ n n₁ w.gained.extends change suits a lt in
-        let g = gained_more rs rs₁ n n₁ (map (arg rs change) done) w.gained (arg rs₁ change a ∷ []) rs₂ n₂ r.0.gained in
-        record { gained = subst (λ ts. Gained rs n ts rs₂ n₂) (ap (λ t. map (arg rs change) done ++ t ∷ []) e ∙ map-push-arg (arg rs change) done a) g; known = r.1 }
+        subst (λ ts. Gained rs n ts rs₂ n₂) push_arg (gained_more rs rs₁ n n₁ (map (arg rs change) done) g₁ (arg rs₁ change₁ a ∷ []) rs₂ n₂ r.gained)
 
-    pub walked_at : (p : ℕ) → Rewritten rs₁ n₁ change a rs₂ n₂ known₂ (Ok p) → term_at rs₂ p ≡ arg rs change a
-    walked_at p r = r.0.is ∙ arg_stays rs rs₁ n n₁ w.gained.extends change suits a lt
+    pub walked_at : (p : ℕ) → Adding rs₁ n₁ (arg rs₁ change₁ a) rs₂ n₂ (Ok p) → term_at rs₂ p ≡ arg rs change a
+    walked_at p r = r.is ∙ is_arg
 
-    pub walked_broken : (e : TableFault) → Rewritten rs₁ n₁ change a rs₂ n₂ known₂ (Err e) → Refused rs n (map (arg rs change) (done ++ a ∷ [])) rs₂ n₂ e
+    pub walked_broken : (e : TableFault) → Adding rs₁ n₁ (arg rs₁ change₁ a) rs₂ n₂ (Err e) → Refused rs n (map (arg rs change) (done ++ a ∷ [])) rs₂ n₂ e
     walked_broken e r =
-        let is = arg_stays rs rs₁ n n₁ w.gained.extends change suits a lt in
         record {
           fault = r.fault;
-          over = subst (Overfull rs n) (ap (λ t. map (arg rs change) done ++ t ∷ []) is ∙ map-push-arg (arg rs change) done a) (overfull_later rs rs₁ n n₁ (map (arg rs change) done) w.gained (arg rs₁ change a ∷ []) r.over);
-          extends = extends_more rs rs₁ rs₂ n n₁ n₂ w.gained.extends r.extends;
+          over = subst (Overfull rs n) push_arg (overfull_later rs rs₁ n n₁ (map (arg rs change) done) g₁ (arg rs₁ change₁ a ∷ []) r.over);
+          extends = extends_more rs rs₁ rs₂ n n₁ n₂ g₁.extends r.extends;
         }
 
   -- the term itself, after its arguments
-  pub settled : (done : List ℕ) (place : ℕ) → place < n → ((all : List Term) → HasAll all (arg rs change place ∷ []) → HasAll all (map (arg rs change) done)) → (rs₁ : List TermRecord) (n₁ : ℕ) (known₁ : List (Option ℕ)) → Walked rs n change done rs₁ n₁ known₁ → (node : Node) → term_of (term_at rs₁) node ≡ arg rs change place → (rs' : List TermRecord) (n' : ℕ) (known' : List (Option ℕ)) (r : Result ℕ TableFault) → Filing rs₁ n₁ (term_of (term_at rs₁) node) place known₁ rs' n' known' r → Rewritten rs n change place rs' n' known' r
-  settled done place lt inside rs₁ n₁ known₁ w node is rs' n' known' (Ok p) f =
+  pub settled : (done : List ℕ) (place : ℕ) → place < n → ((all : List Term) → HasAll all (arg rs change place ∷ []) → HasAll all (map (arg rs change) done)) → (rs₁ : List TermRecord) (n₁ : ℕ) → Gained rs n (map (arg rs change) done) rs₁ n₁ → (change₁ : Change) → change₁ ≡ change → (rs' : List TermRecord) (n' : ℕ) (r : Result ℕ TableFault) → Adding rs₁ n₁ (arg rs₁ change₁ place) rs' n' r → Adding rs n (arg rs change place) rs' n' r
+  settled done place lt inside rs₁ n₁ g₁ change₁ same_change rs' n' (Ok p) f =
       let t = arg rs change place in
-      let g₁ = w.gained in
-      let added = subst (λ u. AddedAt rs₁ n₁ u rs' n' p) is f.0 in
-      let g = gained_more rs rs₁ n n₁ (map (arg rs change) done) g₁ (t ∷ []) rs' n' added.gained in
-      let e = g.extends in
-      let suits₁ = suits_later rs rs₁ n n₁ g₁.extends change suits in (
-        record { gained = gained_as rs rs' n n' (map (arg rs change) done ++ t ∷ []) g (t ∷ []) (λ all h. both all h) added.gained.has; inside = added.inside; is = added.is },
-        subst (Known rs' n' change) (sym f.1) (known_set rs' n' change known₁ place p (known_later rs₁ rs' n₁ n' added.gained.extends change suits₁ known₁ w.known) (omega (arith, lt, e.more)) added.inside (added.is ∙ sym (arg_stays rs rs' n n' e change suits place lt))),
-      )
-    where
-      both : (all : List Term) → HasAll all (arg rs change place ∷ []) → HasAll all (map (arg rs change) done ++ arg rs change place ∷ [])
-      both all h = All-append (Throughout (Has all)) (map (arg rs change) done) (arg rs change place ∷ []) (inside all h) h
-  settled done place lt inside rs₁ n₁ known₁ w node is rs' n' known' (Err e) f =
-      let t = arg rs change place in
+      let g = walked_more done rs₁ n₁ g₁ change₁ same_change place lt rs' n' p f in
+      let at = walked_at done rs₁ n₁ g₁ change₁ same_change place lt rs' n' p f in
       record {
-        fault = f.fault;
-        over = overfull_as rs n (map (arg rs change) done ++ t ∷ []) (t ∷ []) (λ all h. All-append (Throughout (Has all)) (map (arg rs change) done) (t ∷ []) (inside all h) h)
-            (overfull_later rs rs₁ n n₁ (map (arg rs change) done) w.gained (t ∷ []) (subst (λ u. Overfull rs₁ n₁ (u ∷ [])) is f.over));
-        extends = extends_more rs rs₁ rs' n n₁ n' w.gained.extends f.extends;
+        gained = gained_as rs rs' n n' (map (arg rs change) (done ++ place ∷ [])) g (t ∷ []) (λ all h. with_own all (inside all h) h) ((p, f.inside, at), tt);
+        inside = f.inside;
+        is = at;
+      }
+    where
+      with_own : (all : List Term) → HasAll all (map (arg rs change) done) → HasAll all (arg rs change place ∷ []) → HasAll all (map (arg rs change) (done ++ place ∷ []))
+      with_own all some own = subst (HasAll all) (map-push-arg (arg rs change) done place) (All-append (Throughout (Has all)) (map (arg rs change) done) (arg rs change place ∷ []) some own)
+  settled done place lt inside rs₁ n₁ g₁ change₁ same_change rs' n' (Err e) f =
+      let t = arg rs change place in
+      let w = walked_broken done rs₁ n₁ g₁ change₁ same_change place lt rs' n' e f in
+      record {
+        fault = w.fault;
+        over = overfull_as rs n (map (arg rs change) (done ++ place ∷ [])) (t ∷ []) (λ all h. subst (HasAll all) (map-push-arg (arg rs change) done place) (All-append (Throughout (Has all)) (map (arg rs change) done) (t ∷ []) (inside all h) h)) w.over;
+        extends = w.extends;
       }
 
 -- a way out for want of terms
-pub broken_off : (rs : List TermRecord) (n : ℕ) (change : Change) (place : ℕ) (some more : List ℕ) → ((all : List Term) → HasAll all (arg rs change place ∷ []) → HasAll all (map (arg rs change) (some ++ more))) → (rs' : List TermRecord) (n' : ℕ) (e : TableFault) → Refused rs n (map (arg rs change) some) rs' n' e → (known' : List (Option ℕ)) (r : Result ℕ TableFault) → IsErrAnd r (λ x. x ≡ e) → Rewritten rs n change place rs' n' known' r
-broken_off rs n change place some more inside rs' n' e h known' (Ok p) is = absurd is
-broken_off rs n change place some more inside rs' n' e h known' (Err x) is =
+pub broken_off : (rs : List TermRecord) (n : ℕ) (change : Change) (place : ℕ) (some more : List ℕ) → ((all : List Term) → HasAll all (arg rs change place ∷ []) → HasAll all (map (arg rs change) (some ++ more))) → (rs' : List TermRecord) (n' : ℕ) (e : TableFault) → Refused rs n (map (arg rs change) some) rs' n' e → (r : Result ℕ TableFault) → IsErrAnd r (λ x. x ≡ e) → Adding rs n (arg rs change place) rs' n' r
+broken_off rs n change place some more inside rs' n' e h (Ok p) is = absurd is
+broken_off rs n change place some more inside rs' n' e h (Err x) is =
     record {
       fault = is ∙ h.fault;
       over = overfull_as rs n (map (arg rs change) some) (arg rs change place ∷ []) (λ all m. all_left (Throughout (Has all)) (map (arg rs change) some) (map (arg rs change) more) (subst (HasAll all) (map-append-arg (arg rs change) some more) (inside all m))) h.over;
@@ -173,13 +177,66 @@ broken_off rs n change place some more inside rs' n' e h known' (Err x) is =
     map-append-arg f [] ys = refl
     map-append-arg f (x ∷ xs) ys = ap (λ l. f x ∷ l) (map-append-arg f xs ys)
 
+-- a node's places
+abbrev pub places_of : Node → List ℕ
+places_of (Name x) = []
+places_of (Constant f) = []
+places_of (Unary f a) = a ∷ []
+places_of (Binary f a b) = a ∷ b ∷ []
+places_of (Ternary f a b c) = a ∷ b ∷ c ∷ []
+
+-- a place of the bank where the change looks further down
+pub record Site (rs : List TermRecord) (n : ℕ) (change : Change) (place : ℕ) (node : Node) : Type 0 where
+  pub fit : Fit n node
+  pub is : arg rs change place ≡ term_of (arg rs change) node
+
+-- the places that are done, and the bank and the change as they are then
+pub record Underway (rs : List TermRecord) (n : ℕ) (change : Change) (done : List ℕ) (rs' : List TermRecord) (n' : ℕ) (change' : Change) : Type 0 where
+  pub gained : Gained rs n (map (arg rs change) done) rs' n'
+  pub same_change : change' ≡ change
+
+fit_later : (m n : ℕ) (node : Node) → m < n → Fit m node → Fit n node
+fit_later m n (Name x) lt h = h
+fit_later m n (Constant f) lt h = h
+fit_later m n (Unary f a) lt h = omega (arith, lt, h)
+fit_later m n (Binary f a b) lt h = (omega (arith, lt, h.0), omega (arith, lt, h.1))
+fit_later m n (Ternary f a b c) lt h = (omega (arith, lt, h.0), omega (arith, lt, h.1), omega (arith, lt, h.2))
+
 -- the changed arguments stand in the changed term
-module _ (rs : List TermRecord) (change : Change) (place f : ℕ) where
-  pub unary_has : (a : ℕ) → arg rs change place ≡ unary f (arg rs change a) → (all : List Term) → HasAll all (arg rs change place ∷ []) → HasAll all (map (arg rs change) (a ∷ []))
-  unary_has a is all h = ((subst (Throughout (Has all)) is h.0).1, tt)
+places_have : (at : ℕ → Term) (t : Term) (node : Node) → t ≡ term_of at node → (all : List Term) → HasAll all (t ∷ []) → HasAll all (map at (places_of node))
+places_have at t (Name x) is all h = tt
+places_have at t (Constant f) is all h = tt
+places_have at t (Unary f a) is all h = ((subst (Throughout (Has all)) is h.0).1, tt)
+places_have at t (Binary f a b) is all h = let w = subst (Throughout (Has all)) is h.0 in (w.1, (w.2, tt))
+places_have at t (Ternary f a b c) is all h = let w = subst (Throughout (Has all)) is h.0 in (w.1, (w.2, (w.3, tt)))
 
-  pub binary_has : (a b : ℕ) → arg rs change place ≡ binary f (arg rs change a) (arg rs change b) → (all : List Term) → HasAll all (arg rs change place ∷ []) → HasAll all (map (arg rs change) (a ∷ b ∷ []))
-  binary_has a b is all h = let w = subst (Throughout (Has all)) is h.0 in (w.1, (w.2, tt))
+module _ {rs : List TermRecord} {n : ℕ} {change : Change} (suits : Suits n change) where
+  pub site : Bank rs n → {place : ℕ} → place < n → stopped change place (node_at rs place) ≡ None → {node : Node} → node_at rs place ≡ node → Site rs n change place node
+  site b {place} lt none {node} is =
+      record { fit = fit_later place n node lt (subst (Fit place) is (b.ordered.fit place lt)); is = stopped_none rs n b place lt change suits none ∙ ap (term_of (arg rs change)) is }
 
-  pub ternary_has : (a b c : ℕ) → arg rs change place ≡ ternary f (arg rs change a) (arg rs change b) (arg rs change c) → (all : List Term) → HasAll all (arg rs change place ∷ []) → HasAll all (map (arg rs change) (a ∷ b ∷ c ∷ []))
-  ternary_has a b c is all h = let w = subst (Throughout (Has all)) is h.0 in (w.1, (w.2, (w.3, tt)))
+  pub underway_none : Bank rs n → Underway rs n change [] rs n change
+  underway_none b = record { gained = gained_none rs n b; same_change = refl }
+
+  module _ {done : List ℕ} {rs₁ : List TermRecord} {n₁ : ℕ} {change₁ : Change} (w : Underway rs n change done rs₁ n₁ change₁) where
+    pub underway_more : {a : ℕ} → a < n → {change₂ : Change} → change₂ ≡ change₁ → {p n₂ : ℕ} {rs₂ : List TermRecord} → AddedAt rs₁ n₁ (arg rs₁ change₁ a) rs₂ n₂ p → Underway rs n change (done ++ a ∷ []) rs₂ n₂ change₂
+    underway_more {a} lt same_change {p} {n₂} {rs₂} h =
+        record { gained = walked_more rs n change suits done rs₁ n₁ w.gained change₁ w.same_change a lt rs₂ n₂ p h; same_change = same_change ∙ w.same_change }
+
+    pub underway_at : {a : ℕ} → a < n → {p n₂ : ℕ} {rs₂ : List TermRecord} → AddedAt rs₁ n₁ (arg rs₁ change₁ a) rs₂ n₂ p → term_at rs₂ p ≡ arg rs change a
+    underway_at {a} lt {p} {n₂} {rs₂} h = walked_at rs n change suits done rs₁ n₁ w.gained change₁ w.same_change a lt rs₂ n₂ p h
+
+    module _ {place : ℕ} (lt : place < n) {node : Node} (at : Site rs n change place node) where
+      pub underway_is : arg rs₁ change₁ place ≡ term_of (arg rs change) node
+      underway_is = is_arg rs n change suits done rs₁ n₁ w.gained change₁ w.same_change place lt rs₁ n₁ ∙ at.is
+
+      -- no room for an argument
+      pub underway_broken : {a : ℕ} → a < n → (more : List ℕ) → (done ++ a ∷ []) ++ more ≡ places_of node → {e : TableFault} {n' : ℕ} {rs' : List TermRecord} → Refused rs₁ n₁ (arg rs₁ change₁ a ∷ []) rs' n' e → (r : Result ℕ TableFault) → IsErrAnd r (λ x. x ≡ e) → Adding rs n (arg rs change place) rs' n' r
+      underway_broken {a} inside more are {e} {n'} {rs'} h r fails =
+          broken_off rs n change place (done ++ a ∷ []) more (λ all m. subst (λ l. HasAll all (map (arg rs change) l)) (sym are) (places_have (arg rs change) (arg rs change place) node at.is all m)) rs' n' e
+          (walked_broken rs n change suits done rs₁ n₁ w.gained change₁ w.same_change a inside rs' n' e h) r fails
+
+      -- the term itself, after its arguments
+      pub underway_settled : done ≡ places_of node → (rs' : List TermRecord) (n' : ℕ) (r : Result ℕ TableFault) → Adding rs₁ n₁ (arg rs₁ change₁ place) rs' n' r → Adding rs n (arg rs change place) rs' n' r
+      underway_settled are rs' n' r h =
+          settled rs n change suits done place lt (λ all m. subst (λ l. HasAll all (map (arg rs change) l)) (sym are) (places_have (arg rs change) (arg rs change place) node at.is all m)) rs₁ n₁ w.gained change₁ w.same_change rs' n' r h

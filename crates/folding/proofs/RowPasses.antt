@@ -1,12 +1,12 @@
 -- A row changed throughout, from its vector and its conditions.
-use Rattle.std.proofs.Common.{◌≡◌, ℕ, zero, suc, ◌<◌, List, [], ◌∷◌, ◌++◌, map, length, get_or, take, drop, replicate, length-append, Some, None, Option, sym, refl, ap, ◌∙◌, subst, arith}
+use Rattle.std.proofs.Common.{◌≡◌, ℕ, zero, suc, ◌<◌, List, [], ◌∷◌, ◌++◌, map, length, get_or, take, drop, replicate, length-append, Some, None, sym, refl, ap, ◌∙◌, subst, arith}
 use Rattle.std.specs.List.{ContainsAt as Has}
 use Rattle.std.proofs.lemmas.List.{length-take-le, get_or-take}
 use Rattle.fault.specs.declared.TableFault.{TableFault}
 use Rattle.sheet.specs.System.{System}
 use Rattle.terms.specs.declared.Condition.{Condition}
 use Rattle.terms.specs.declared.TermRecord.{TermRecord}
-use Rattle.terms.specs.Terms.{Literal}
+use Rattle.terms.specs.Terms.{Term, Literal}
 use Rattle.terms.specs.Bank.{Extends, term_at, literal_of}
 use Rattle.terms.proofs.Filing.{extends_more}
 use Rattle.closure.specs.Labels.{no_condition}
@@ -95,12 +95,12 @@ module _ (rs : List TermRecord) (n : ℕ) (change : Change) (suits : Suits n cha
     abbrev conditions : List Condition
     conditions = take row.used row.conditions
 
-    module _ (places' : List ℕ) (same_places : length places' ≡ length places) (known₁ : List (Option ℕ)) (p : PlacesChanged rs n change places places' rs₁ n₁ known₁) where
+    module _ (places' : List ℕ) (same_places : length places' ≡ length places) (p : PlacesChanged rs n change places places' rs₁ n₁) where
       pub conditions_broken : (f : TableFault) (rs' : List TermRecord) (n' : ℕ) → NoRoom rs₁ n₁ change old_sides rs' n' f → Refused rs n (terms_in (changed_row rs change (row_in s rs row))) rs' n' f
       conditions_broken f rs' n' h =
-          record { fault = h.fault; extends = extends_more rs rs₁ rs' n n₁ n' p.walked.gained.extends h.extends; over = subst (Overfull rs n) terms_are (overfull_later rs rs₁ n n₁ (map (arg rs change) places) p.walked.gained (map (arg rs₁ change) old_sides) h.over) }
+          record { fault = h.fault; extends = extends_more rs rs₁ rs' n n₁ n' p.gained.extends h.extends; over = subst (Overfull rs n) terms_are (overfull_later rs rs₁ n n₁ (map (arg rs change) places) p.gained (map (arg rs₁ change) old_sides) h.over) }
 
-      module _ (conditions' : List Condition) (same_conditions : length conditions' ≡ length conditions) (rs₂ : List TermRecord) (n₂ : ℕ) (known₂ : List (Option ℕ)) (c : ConditionsChanged rs₁ n₁ change conditions conditions' rs₂ n₂ known₂) where
+      module _ (conditions' : List Condition) (same_conditions : length conditions' ≡ length conditions) (rs₂ : List TermRecord) (n₂ : ℕ) (c : ConditionsChanged rs₁ n₁ change conditions conditions' rs₂ n₂) where
         abbrev vector' : List ℕ
         vector' = places' ++ drop (length s.readings) row.vector
 
@@ -111,7 +111,7 @@ module _ (rs : List TermRecord) (n : ℕ) (change : Change) (suits : Suits n cha
         made = record { bits = row.bits; vector = vector'; conditions = all; used = row.used }
 
         place_is : (j : ℕ) → j < length places → Became rs change (get_or places j 0) rs₂ n₂ (get_or places' j 0)
-        place_is j lt = became_later rs change (get_or places j 0) rs₁ rs₂ n₁ n₂ (get_or places' j 0) c.walked.gained.extends (p.became j lt)
+        place_is j lt = became_later rs change (get_or places j 0) rs₁ rs₂ n₁ n₂ (get_or places' j 0) c.gained.extends (p.became j lt)
 
         literal_is : (j : ℕ) → j < length conditions → literal_of rs₂ (get_or conditions' j no_condition) ≡ changed_in rs change (literal_of rs (get_or conditions j no_condition))
         literal_is j lt =
@@ -137,7 +137,7 @@ module _ (rs : List TermRecord) (n : ℕ) (change : Change) (suits : Suits n cha
             let place : (k : ℕ) → k < length s.readings → get_or vector' k 0 ≡ get_or places' k 0 = λ k lt. sym (get_or-take (length s.readings) vector' k 0 lt) ∙ ap (λ l. get_or l k 0) front in
             let one : (k : ℕ) → k < row.used → get_or conditions' k no_condition ≡ get_or all k no_condition = λ k lt. ap (λ l. get_or l k no_condition) (sym taken) ∙ get_or-take row.used all k no_condition lt in
             record {
-              gained = subst (λ ts. Gained rs n ts rs₂ n₂) terms_are (gained_more rs rs₁ n n₁ (map (arg rs change) places) p.walked.gained (map (arg rs₁ change) old_sides) rs₂ n₂ c.walked.gained);
+              gained = subst (λ ts. Gained rs n ts rs₂ n₂) terms_are (gained_more rs rs₁ n n₁ (map (arg rs change) places) p.gained (map (arg rs₁ change) old_sides) rs₂ n₂ c.gained);
               is = same_row (row_in s rs₂ made) (changed_row rs change (row_in s rs row)) refl
                   (ap (map (term_at rs₂)) front ∙ (alike (term_at rs₂) (arg rs change) 0 0 places' places same_places (λ j lt. (place_is j lt).1) ∙ sym (map-map (term_at rs) (changed rs change) places)))
                   (ap (map (literal_of rs₂)) taken ∙ (alike (literal_of rs₂) (λ d. changed_in rs change (literal_of rs d)) no_condition no_condition conditions' conditions same_conditions literal_is ∙ sym (map-map (literal_of rs) (changed_in rs change) conditions)));
@@ -153,3 +153,10 @@ module _ (rs : List TermRecord) (n : ℕ) (change : Change) (suits : Suits n cha
                 };
               };
             }
+
+-- what holds of the bank as it is worked on holds of it when it is given back
+pub refused_back : (rs : List TermRecord) (n : ℕ) (ts : List Term) (rs' rs₁ : List TermRecord) (n' n₁ : ℕ) (e : TableFault) → Refused rs n ts rs₁ n₁ e → rs' ≡ rs₁ → n' ≡ n₁ → Refused rs n ts rs' n' e
+refused_back rs n ts rs' rs₁ n' n₁ e h p q = rw (p, q) h
+
+pub row_changed_back : (s : System) (rs : List TermRecord) (n : ℕ) (change : Change) (row : RowRecord) (rs' rs₁ : List TermRecord) (n' n₁ : ℕ) (made : RowRecord) → RowChanged s rs n change row rs₁ n₁ made → rs' ≡ rs₁ → n' ≡ n₁ → RowChanged s rs n change row rs' n' made
+row_changed_back s rs n change row rs' rs₁ n' n₁ made h p q = rw (p, q) h

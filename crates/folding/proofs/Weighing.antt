@@ -1,5 +1,5 @@
 -- An older row's conditions, renamed in the bank, are those that the renaming makes of them.
-use Rattle.std.proofs.Common.{◌≡◌, ℕ, Bool, List, [], ◌∷◌, ◌++◌, map, length, get_or, Ok, Err, Decides, Option, sym, refl, ap, ◌∙◌, subst, arith}
+use Rattle.std.proofs.Common.{◌≡◌, ℕ, Bool, List, [], ◌∷◌, ◌++◌, map, length, get_or, Ok, Err, Decides, sym, refl, ap, ◌∙◌, subst, arith}
 use Rattle.std.specs.List.{AllByRecursion as All}
 use Rattle.fault.specs.declared.TableFault.{TableFault}
 use Rattle.terms.specs.declared.Condition.{Condition}
@@ -30,7 +30,7 @@ module _ (rs : List TermRecord) (n : ℕ) (r : Renaming) where
   sides_renamed [] = refl
   sides_renamed (c ∷ cs) = ap (λ ts. renamed (sends r) (term_at rs c.left) ∷ renamed (sends r) (term_at rs c.right) ∷ ts) (sides_renamed cs)
 
-  module _ (old new : List Condition) (rs' : List TermRecord) (n' : ℕ) (known' : List (Option ℕ)) (h : ConditionsChanged rs n (Rename r.to) old new rs' n' known') (same : length new ≡ length old) where
+  module _ (old new : List Condition) (rs' : List TermRecord) (n' : ℕ) (h : ConditionsChanged rs n (Rename r.to) old new rs' n') (same : length new ≡ length old) where
     literals-renamed : literals rs' new ≡ map (renamed_in (sends r)) (literals rs old)
     literals-renamed =
         alike (literal_of rs') (λ c. renamed_in (sends r) (literal_of rs c)) no_condition no_condition new old same
@@ -42,11 +42,15 @@ module _ (rs : List TermRecord) (n : ℕ) (r : Renaming) where
 
     pub weighed : (given : List Condition) → Between n given (length given) → (answer : Bool) → Decides answer (All (Entails (literals rs' given)) (literals rs' new)) → Weighed rs n (sends r) (literals rs old) (literals rs given) (Ok answer)
     weighed given b answer decides = (
-      λ seen held. subst (λ ts. Roomy (seen ++ ts)) (sides_renamed old) (roomy_gained rs n seen held (map (arg rs (Rename r.to)) (side_places old)) rs' n' h.walked.gained),
+      λ seen held. subst (λ ts. Roomy (seen ++ ts)) (sides_renamed old) (roomy_gained rs n seen held (map (arg rs (Rename r.to)) (side_places old)) rs' n' h.gained),
       subst (λ goals. Decides answer (All (Entails (literals rs given)) goals)) literals-renamed
-          (subst (λ cs. Decides answer (All (Entails cs) (literals rs' new))) (literals_stay rs rs' n h.walked.gained.extends.stays given b) decides),
+          (subst (λ cs. Decides answer (All (Entails cs) (literals rs' new))) (literals_stay rs rs' n h.gained.extends.stays given b) decides),
     )
 
   pub unweighed : (old : List Condition) (rs' : List TermRecord) (n' : ℕ) (e : TableFault) → NoRoom rs n (Rename r.to) (side_places old) rs' n' e → (given : List Literal) → Weighed rs n (sends r) (literals rs old) given (Err e)
   unweighed old rs' n' e h given =
       (h.fault, λ seen held. subst (λ ts. Crowded (seen ++ ts)) (sides_renamed old) (crowded_overfull rs n seen held (map (arg rs (Rename r.to)) (side_places old)) h.over))
+
+-- what is answered of the bank as it is given back
+pub decided_back : (rs rs' : List TermRecord) (answer : Bool) (given goals : List Condition) → Decides answer (All (Entails (literals rs' given)) (literals rs' goals)) → rs' ≡ rs → Decides answer (All (Entails (literals rs given)) (literals rs goals))
+decided_back rs rs' answer given goals h p = subst (λ bank. Decides answer (All (Entails (literals bank given)) (literals bank goals))) p h

@@ -1,12 +1,13 @@
 -- Terms of the bank changed throughout: one replaced by a name, or every name renamed. Assumes nothing.
-use Rattle.std.specs.Prelude.{◌≡◌, ℕ, ◌<◌, cond, List, [], ◌∷◌, map, length, get_or, Some, None, Ok, Err, Option, Result, ◌==◌, slice_index, slice_index_or, slice_set}
+use Rattle.std.specs.Prelude.{◌≡◌, ℕ, ◌<◌, true, cond, List, [], ◌∷◌, map, length, get_or, Some, None, Ok, Err, Option, Result, ◌==◌, slice_index, slice_index_or}
+use Rattle.std.proofs.Props.{props}
 use Rattle.fault.specs.declared.TableFault.{TableFault}
 use Rattle.fault.specs.declared.TableFault.TheVariants.{TermsExhausted}
 use Rattle.terms.specs.declared.Condition.{Condition}
 use Rattle.terms.specs.declared.Node.{Node}
 use Rattle.terms.specs.declared.Node.TheVariants.{Name, Constant, Unary, Binary, Ternary}
 use Rattle.terms.specs.declared.TermRecord.{TermRecord}
-use Rattle.terms.specs.Terms.{Term, name, replaced, renamed}
+use Rattle.terms.specs.Terms.{Term, name, replaced, renamed, same}
 use Rattle.terms.specs.Bank.{Extends, term_at}
 use Rattle.closure.specs.Labels.{no_condition}
 use Rattle.banks.specs.Gains.{Gained, Overfull}
@@ -27,6 +28,10 @@ abbrev pub Suits : ℕ → Change → Type 0
 Suits n (Replace old x) = (old < n) × (x < 32)
 Suits n (Rename to) = (y : ℕ) → slice_index to y < 32
 
+pub Suits-prop : (n : ℕ) (change : Change) → IsProp (Suits n change)
+Suits-prop n (Replace old x) = Prim.hlevel props
+Suits-prop n (Rename to) = Prim.hlevel props
+
 -- the node that a change puts in the place of a term, where it looks no further down
 abbrev pub renamed_name : List ℕ → Node → Option Node
 renamed_name to (Name y) = Some (Name (slice_index to y))
@@ -41,7 +46,10 @@ stopped (Rename to) place node = renamed_name to node
 
 -- what is remembered of the change: place i became place p
 abbrev pub Known : List TermRecord → ℕ → Change → List (Option ℕ) → Type 0
-Known rs n change known = (i p : ℕ) → slice_index_or known i None ≡ Some p → (i < n) × (p < n) × (term_at rs p ≡ changed rs change (term_at rs i))
+Known rs n change known = (i p : ℕ) → slice_index_or known i None ≡ Some p → (i < n) × (p < n) × (same (term_at rs p) (arg rs change i) ≡ true)
+
+pub Known-prop : (rs : List TermRecord) (n : ℕ) (change : Change) (known : List (Option ℕ)) → IsProp (Known rs n change known)
+Known-prop rs n change known = Prim.hlevel props
 
 -- the bank with a term added, at place p; or no room for it
 pub record AddedAt (rs : List TermRecord) (n : ℕ) (t : Term) (rs' : List TermRecord) (n' p : ℕ) : Type 0 where
@@ -59,20 +67,6 @@ abbrev pub Adding : List TermRecord → ℕ → Term → List TermRecord → ℕ
 Adding rs n t rs' n' (Ok p) = AddedAt rs n t rs' n' p
 Adding rs n t rs' n' (Err e) = Refused rs n (t ∷ []) rs' n' e
 
--- a term added and remembered for the place that became it
-abbrev pub Filing : List TermRecord → ℕ → Term → ℕ → List (Option ℕ) → List TermRecord → ℕ → List (Option ℕ) → Result ℕ TableFault → Type 0
-Filing rs n t place known rs' n' known' (Ok p) = AddedAt rs n t rs' n' p × (known' ≡ slice_set known place (Some p))
-Filing rs n t place known rs' n' known' (Err e) = Refused rs n (t ∷ []) rs' n' e
-
-abbrev pub Rewritten : List TermRecord → ℕ → Change → ℕ → List TermRecord → ℕ → List (Option ℕ) → Result ℕ TableFault → Type 0
-Rewritten rs n change place rs' n' known' (Ok p) = AddedAt rs n (changed rs change (term_at rs place)) rs' n' p × Known rs' n' change known'
-Rewritten rs n change place rs' n' known' (Err e) = Refused rs n (changed rs change (term_at rs place) ∷ []) rs' n' e
-
--- the terms at some places are changed and in the bank
-pub record Walked (rs : List TermRecord) (n : ℕ) (change : Change) (done : List ℕ) (rs' : List TermRecord) (n' : ℕ) (known' : List (Option ℕ)) : Type 0 where
-  pub gained : Gained rs n (map (arg rs change) done) rs' n'
-  pub known : Known rs' n' change known'
-
 -- place `new` stands for what the change makes of the term at place `old`
 abbrev pub Became : List TermRecord → Change → ℕ → List TermRecord → ℕ → ℕ → Type 0
 Became rs change old rs' n' new = (new < n') × (term_at rs' new ≡ arg rs change old)
@@ -82,8 +76,8 @@ abbrev pub NoRoom : List TermRecord → ℕ → Change → List ℕ → List Ter
 NoRoom rs n change places rs' n' e = Refused rs n (map (arg rs change) places) rs' n' e
 
 -- the terms at some places changed
-pub record PlacesChanged (rs : List TermRecord) (n : ℕ) (change : Change) (old new : List ℕ) (rs' : List TermRecord) (n' : ℕ) (known' : List (Option ℕ)) : Type 0 where
-  pub walked : Walked rs n change old rs' n' known'
+pub record PlacesChanged (rs : List TermRecord) (n : ℕ) (change : Change) (old new : List ℕ) (rs' : List TermRecord) (n' : ℕ) : Type 0 where
+  pub gained : Gained rs n (map (arg rs change) old) rs' n'
   pub became : (k : ℕ) → k < length old → Became rs change (slice_index old k) rs' n' (slice_index new k)
 
 -- both sides of each condition
@@ -91,8 +85,8 @@ abbrev pub side_places : List Condition → List ℕ
 side_places [] = []
 side_places (c ∷ cs) = c.left ∷ c.right ∷ side_places cs
 
-pub record ConditionsChanged (rs : List TermRecord) (n : ℕ) (change : Change) (old new : List Condition) (rs' : List TermRecord) (n' : ℕ) (known' : List (Option ℕ)) : Type 0 where
-  pub walked : Walked rs n change (side_places old) rs' n' known'
+pub record ConditionsChanged (rs : List TermRecord) (n : ℕ) (change : Change) (old new : List Condition) (rs' : List TermRecord) (n' : ℕ) : Type 0 where
+  pub gained : Gained rs n (map (arg rs change) (side_places old)) rs' n'
   pub lefts : (k : ℕ) → k < length old → Became rs change (get_or old k no_condition).left rs' n' (get_or new k no_condition).left
   pub rights : (k : ℕ) → k < length old → Became rs change (get_or old k no_condition).right rs' n' (get_or new k no_condition).right
   pub signs : (k : ℕ) → k < length old → (get_or new k no_condition).sign ≡ (get_or old k no_condition).sign

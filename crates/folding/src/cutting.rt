@@ -11,7 +11,7 @@ ghost use Rattle.folding.specs.Rewriting.{Refused, Suits};
 ghost use Rattle.folding.specs.Rewritten.{changed_row, RowChanged};
 
 use crate::change::Change;
-use crate::rewriting::{rewrite_conditions, rewrite_places};
+use crate::rewriting::Rewriting;
 use crate::view::View;
 use fault::TableFault;
 use rows::{RowRecord, lowest_free, names_of_row, readings_of};
@@ -93,11 +93,16 @@ fn rewrite_row(
 {
     let mut vector = row.vector;
     let mut conditions = row.conditions;
-    let mut known = [None; MOST_TERMS];
+    let mut rewriting = Rewriting {
+        bank,
+        count,
+        change,
+        known: [None; MOST_TERMS],
+    };
     let readings = readings_of(sheet);
-    rewrite_places(bank, count, change, &mut vector[..readings], &mut known)?;
+    rewriting.rewrite_places(&mut vector[..readings])?;
     let used = row.used as usize;
-    rewrite_conditions(bank, count, change, &mut conditions[..used], &mut known)?;
+    rewriting.rewrite_conditions(&mut conditions[..used])?;
     Ok(RowRecord {
         vector,
         conditions,

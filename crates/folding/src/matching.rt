@@ -13,7 +13,7 @@ ghost use Rattle.folding.specs.Matched.{Comparable, MatchCovering, Matched, Weig
 
 use crate::change::Change;
 use crate::renaming::Renaming;
-use crate::rewriting::rewrite_conditions;
+use crate::rewriting::Rewriting;
 use crate::view::View;
 use closure::entails;
 use fault::TableFault;
@@ -65,13 +65,9 @@ impl View<'_> {
         requires { Between self.now.count.terms conditions.now (length conditions.now) }
         ensures { (vector : List Term) → NamesIn names vector → Decides result (AllByRecursion (λ c. is_named vector c ≡ true) (literals self.now.records.now conditions.now)) }
     {
-        // A loop, since a closure would have to say again that each condition is between the bank's terms.
-        for condition in conditions {
-            if !self.is_named(names, *condition) {
-                return false;
-            }
-        }
-        true
+        conditions
+            .iter()
+            .all(|condition| self.is_named(names, *condition))
     }
 }
 
@@ -89,10 +85,15 @@ fn compare_conditions(
     ensures stays { Stays count.old.terms bank.old bank.new }
 {
     let change = Change::Rename(renaming.to);
-    let mut known = [None; MOST_TERMS];
+    let mut rewriting = Rewriting {
+        bank: &mut *bank,
+        count: &mut *count,
+        change: &change,
+        known: [None; MOST_TERMS],
+    };
     let mut renamed = older.conditions;
     let used = older.used as usize;
-    rewrite_conditions(bank, count, &change, &mut renamed[..used], &mut known)?;
+    rewriting.rewrite_conditions(&mut renamed[..used])?;
     let view = View {
         records: bank,
         count: *count,

@@ -1,14 +1,13 @@
-//! Terms of the bank changed throughout, by recursion on falling places. What a place became is remembered, so that
-//! each term is visited once, however often it is shared.
+//! Terms of the bank changed throughout, by recursion on falling places.
 ghost use Rattle.std.specs.Prelude.{◌≡◌, ℕ, ◌<◌, ◌≤◌, length, MatchResult, slice_index};
 ghost use Rattle.terms.specs.Bank.{Bank, Fit, term_at, term_of};
-ghost use Rattle.folding.specs.Rewriting.{renamed_name, stopped, Suits, Known, Adding, Filing, Rewritten, PlacesChanged, ConditionsChanged, NoRoom, side_places};
+ghost use Rattle.folding.specs.Viewing.{Bank-prop};
+ghost use Rattle.folding.specs.Rewriting.{arg, renamed_name, stopped, Suits, Suits-prop, Known, Known-prop, Adding, PlacesChanged, ConditionsChanged, NoRoom, side_places};
 ghost use Rattle.rows.specs.Records.{Between};
 
 use crate::change::Change;
 use fault::TableFault;
-use sheet::{recall, remember};
-use terms::{Condition, Count, Node, TermRecord, intern};
+use terms::{Condition, Count, MOST_TERMS, Node, TermRecord, intern};
 
 fn renamed_name(to: &[u8], node: Node) -> Option<Node>
     ensures { result ≡ renamed_name to.now node }
@@ -29,130 +28,117 @@ fn stop(change: &Change, place: u16, node: Node) -> Option<Node>
     }
 }
 
-/// The place of the term of `node`, which may be that of `place` itself; added where it is new.
-fn add(
-    bank: &mut [TermRecord],
-    count: &mut Count,
-    place: u16,
-    node: Node,
-) -> Result<u16, TableFault>
-    requires bank { Bank bank.old count.old.terms }
-    requires long { 512 ≤ length bank.old }
-    requires inside { place < count.old.terms }
-    requires fit { Fit count.old.terms node }
-    ensures { Adding bank.old count.old.terms (term_of (term_at bank.old) node) bank.new count.new.terms result }
-{
-    if bank[place as usize].node == node {
-        return Ok(place);
-    }
-    intern(bank, count, node)
+/// A change on its way through a lent bank. What a place became is remembered, so that each term is visited once, however
+/// often it is shared.
+#[derive(Drop)]
+pub(crate) struct Rewriting<'a> {
+    pub(crate) bank: &'a mut [TermRecord],
+    pub(crate) count: &'a mut Count,
+    pub(crate) change: &'a Change,
+    pub(crate) known: [Option<u16>; MOST_TERMS],
+    ghost is_bank: { Bank bank.now count.now.terms } by { Bank-prop bank.now count.now.terms },
+    ghost long: { 512 ≤ length bank.now },
+    ghost suits: { Suits count.now.terms change.now } by { Suits-prop count.now.terms change.now },
+    ghost is_known: { Known bank.now count.now.terms change.now known } by { Known-prop bank.now count.now.terms change.now known },
 }
 
-/// Adds the term of `node`, and remembers it as what `place` became.
-fn settle(
-    bank: &mut [TermRecord],
-    count: &mut Count,
-    place: u16,
-    node: Node,
-    known: &mut [Option<u16>],
-) -> Result<u16, TableFault>
-    requires bank { Bank bank.old count.old.terms }
-    requires long { 512 ≤ length bank.old }
-    requires inside { place < count.old.terms }
-    requires fit { Fit count.old.terms node }
-    ensures { Filing bank.old count.old.terms (term_of (term_at bank.old) node) place known.old bank.new count.new.terms known.new result }
-{
-    let became = add(bank, count, place, node)?;
-    remember(known, place as usize, became);
-    Ok(became)
-}
-
-/// The place of what the change makes of the term at `place`, added with its subterms where they are new.
-pub(crate) fn rewrite(
-    bank: &mut [TermRecord],
-    count: &mut Count,
-    change: &Change,
-    place: u16,
-    known: &mut [Option<u16>],
-) -> Result<u16, TableFault>
-    requires bank { Bank bank.old count.old.terms }
-    requires long { 512 ≤ length bank.old }
-    requires suits { Suits count.old.terms change.now }
-    requires inside { place < count.old.terms }
-    requires known { Known bank.old count.old.terms change.now known.old }
-    ensures { Rewritten bank.old count.old.terms change.now place bank.new count.new.terms known.new result }
-{
-    if let Some(became) = recall(known, place as usize) {
-        return Ok(became);
-    }
-    let node = bank[place as usize].node;
-    if let Some(new) = stop(change, place, node) {
-        return settle(bank, count, place, new, known);
-    }
-    match node {
-        Node::Name(_) | Node::Constant(_) => settle(bank, count, place, node, known),
-        Node::Unary(f, a) => {
-            let a = rewrite(bank, count, change, a, known)?;
-            settle(bank, count, place, Node::Unary(f, a), known)
+// Each method keeps the references to the bank and the count, so that who lent them learns what became of both.
+impl Rewriting<'_> {
+    /// The place of the term of `node`, which may be that of `place` itself; added where it is new.
+    fn add(&mut self, place: u16, node: Node) -> Result<u16, TableFault>
+        requires inside { place < self.old.count.now.terms }
+        requires fit { Fit self.old.count.now.terms node }
+        ensures adding { Adding self.old.bank.now self.old.count.now.terms (term_of (term_at self.old.bank.now) node) self.new.bank.now self.new.count.now.terms result }
+        ensures lent { (self.new.bank.ghost_name ≡ self.old.bank.ghost_name) × (self.new.count.ghost_name ≡ self.old.count.ghost_name) }
+        ensures change { self.new.change.now ≡ self.old.change.now }
+    {
+        let old = self.bank[place as usize].node;
+        if old == node {
+            return Ok(place);
         }
-        Node::Binary(f, a, b) => {
-            let a = rewrite(bank, count, change, a, known)?;
-            let b = rewrite(bank, count, change, b, known)?;
-            settle(bank, count, place, Node::Binary(f, a, b), known)
-        }
-        Node::Ternary(f, a, b, c) => {
-            let a = rewrite(bank, count, change, a, known)?;
-            let b = rewrite(bank, count, change, b, known)?;
-            let c = rewrite(bank, count, change, c, known)?;
-            settle(bank, count, place, Node::Ternary(f, a, b, c), known)
-        }
+        intern(self.bank, self.count, node)
     }
-}
 
-/// Changes the terms at these places.
-pub(crate) fn rewrite_places(
-    bank: &mut [TermRecord],
-    count: &mut Count,
-    change: &Change,
-    places: &mut [u16],
-    known: &mut [Option<u16>],
-) -> Result<(), TableFault>
-    requires bank { Bank bank.old count.old.terms }
-    requires long { 512 ≤ length bank.old }
-    requires suits { Suits count.old.terms change.now }
-    requires inside { (k : ℕ) → k < length places.old → slice_index places.old k < count.old.terms }
-    requires known { Known bank.old count.old.terms change.now known.old }
-    ensures { MatchResult result (λ _. PlacesChanged bank.old count.old.terms change.now places.old places.new bank.new count.new.terms known.new) (λ e. NoRoom bank.old count.old.terms change.now places.old bank.new count.new.terms e) }
-{
-    for place in places.iter_mut() {
-        *place = rewrite(bank, count, change, *place, known)?;
+    /// Adds the term of `node`, and remembers it as what `place` became.
+    fn settle(&mut self, place: u16, node: Node) -> Result<u16, TableFault>
+        requires inside { place < self.old.count.now.terms }
+        requires fit { Fit self.old.count.now.terms node }
+        requires became { term_of (term_at self.old.bank.now) node ≡ arg self.old.bank.now self.old.change.now place }
+        ensures adding { Adding self.old.bank.now self.old.count.now.terms (arg self.old.bank.now self.old.change.now place) self.new.bank.now self.new.count.now.terms result }
+        ensures lent { (self.new.bank.ghost_name ≡ self.old.bank.ghost_name) × (self.new.count.ghost_name ≡ self.old.count.ghost_name) }
+        ensures change { self.new.change.now ≡ self.old.change.now }
+    {
+        let became = self.add(place, node)?;
+        self.known[place as usize] = Some(became);
+        Ok(became)
     }
-    Ok(())
-}
 
-/// Changes the terms of these conditions.
-pub(crate) fn rewrite_conditions(
-    bank: &mut [TermRecord],
-    count: &mut Count,
-    change: &Change,
-    conditions: &mut [Condition],
-    known: &mut [Option<u16>],
-) -> Result<(), TableFault>
-    requires bank { Bank bank.old count.old.terms }
-    requires long { 512 ≤ length bank.old }
-    requires suits { Suits count.old.terms change.now }
-    requires inside { Between count.old.terms conditions.old (length conditions.old) }
-    requires known { Known bank.old count.old.terms change.now known.old }
-    ensures { MatchResult result (λ _. ConditionsChanged bank.old count.old.terms change.now conditions.old conditions.new bank.new count.new.terms known.new) (λ e. NoRoom bank.old count.old.terms change.now (side_places conditions.old) bank.new count.new.terms e) }
-{
-    for condition in conditions.iter_mut() {
-        let left = rewrite(bank, count, change, condition.left, known)?;
-        let right = rewrite(bank, count, change, condition.right, known)?;
-        *condition = Condition {
-            left,
-            right,
-            sign: condition.sign,
-        };
+    /// The place of what the change makes of the term at `place`, added with its subterms where they are new.
+    fn rewrite(&mut self, place: u16) -> Result<u16, TableFault>
+        requires inside { place < self.old.count.now.terms }
+        ensures adding { Adding self.old.bank.now self.old.count.now.terms (arg self.old.bank.now self.old.change.now place) self.new.bank.now self.new.count.now.terms result }
+        ensures lent { (self.new.bank.ghost_name ≡ self.old.bank.ghost_name) × (self.new.count.ghost_name ≡ self.old.count.ghost_name) }
+        ensures change { self.new.change.now ≡ self.old.change.now }
+    {
+        if let Some(became) = self.known[place as usize] {
+            return Ok(became);
+        }
+        let node = self.bank[place as usize].node;
+        if let Some(new) = stop(self.change, place, node) {
+            return self.settle(place, new);
+        }
+        match node {
+            Node::Name(_) | Node::Constant(_) => self.settle(place, node),
+            Node::Unary(f, a) => {
+                let a = self.rewrite(a)?;
+                self.settle(place, Node::Unary(f, a))
+            }
+            Node::Binary(f, a, b) => {
+                let a = self.rewrite(a)?;
+                let b = self.rewrite(b)?;
+                self.settle(place, Node::Binary(f, a, b))
+            }
+            Node::Ternary(f, a, b, c) => {
+                let a = self.rewrite(a)?;
+                let b = self.rewrite(b)?;
+                let c = self.rewrite(c)?;
+                self.settle(place, Node::Ternary(f, a, b, c))
+            }
+        }
     }
-    Ok(())
+
+    /// Changes the terms at these places.
+    pub(crate) fn rewrite_places(&mut self, places: &mut [u16]) -> Result<(), TableFault>
+        requires { (k : ℕ) → k < length places.old → slice_index places.old k < self.old.count.now.terms }
+        ensures changed { MatchResult result (λ _. PlacesChanged self.old.bank.now self.old.count.now.terms self.old.change.now places.old places.new self.new.bank.now self.new.count.now.terms) (λ e. NoRoom self.old.bank.now self.old.count.now.terms self.old.change.now places.old self.new.bank.now self.new.count.now.terms e) }
+        ensures lent { (self.new.bank.ghost_name ≡ self.old.bank.ghost_name) × (self.new.count.ghost_name ≡ self.old.count.ghost_name) }
+        ensures change { self.new.change.now ≡ self.old.change.now }
+    {
+        for place in places.iter_mut() {
+            *place = self.rewrite(*place)?;
+        }
+        Ok(())
+    }
+
+    /// Changes the terms of these conditions.
+    pub(crate) fn rewrite_conditions(
+        &mut self,
+        conditions: &mut [Condition],
+    ) -> Result<(), TableFault>
+        requires { Between self.old.count.now.terms conditions.old (length conditions.old) }
+        ensures changed { MatchResult result (λ _. ConditionsChanged self.old.bank.now self.old.count.now.terms self.old.change.now conditions.old conditions.new self.new.bank.now self.new.count.now.terms) (λ e. NoRoom self.old.bank.now self.old.count.now.terms self.old.change.now (side_places conditions.old) self.new.bank.now self.new.count.now.terms e) }
+        ensures lent { (self.new.bank.ghost_name ≡ self.old.bank.ghost_name) × (self.new.count.ghost_name ≡ self.old.count.ghost_name) }
+        ensures change { self.new.change.now ≡ self.old.change.now }
+    {
+        for condition in conditions.iter_mut() {
+            let left = self.rewrite(condition.left)?;
+            let right = self.rewrite(condition.right)?;
+            *condition = Condition {
+                left,
+                right,
+                sign: condition.sign,
+            };
+        }
+        Ok(())
+    }
 }

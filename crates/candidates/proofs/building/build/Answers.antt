@@ -6,7 +6,11 @@ use Rattle.forms.specs.Counted.{terms_in}
 use Rattle.rows.specs.Records.{row_in}
 use Rattle.sheet.proofs.Fewness.{few_bits}
 use Rattle.candidates.proofs.Lawfully.{few_questions, few_asked, few_readings}
-use Rattle.candidates.proofs.Listing.{added_break}
+use Rattle.banks.specs.Gains.{Gained}
+use Rattle.rows.specs.declared.row.RowRecord.{RowRecord}
+use Rattle.candidates.specs.Outcome.{StandsFor}
+use Rattle.candidates.specs.Working.{Added}
+use Rattle.candidates.proofs.Listing.{added_break, left}
 use Rattle.candidates.proofs.Completing.{conditions_joined, conditions_refused, vector_placed, vector_refused, row_built, bits_built}
 use Rattle.candidates.proofs.building.build.Goals as goal
 
@@ -27,9 +31,10 @@ returns-in_err-conditions c =
     let answers = take c.questions_of-asked.result c.answers_of.result in
     let answers_are : answers ≡ branch_answers (length s.questions) c.args.branch = (c.answers_of.ensures c.questions_of-asked.result (few_asked s c.args.sheet.now.lawful c.questions_of-asked.result c.questions_of-asked.ensures) ∙ ap (λ k. branch_answers k c.args.branch) c.questions_of-asked.ensures) in
     let next = candidate_with s (row_in s rs row) c.args.names.now (branch_answers (length s.questions) c.args.branch) in
-    let x = conditions_joined s rs n row c.requires.sound few c.args.names.now c.requires.names c.args.branch given.terms.now given.vector.now answers c.over-given.ensures.terms c.over-given.ensures.vector answers_are given.inputs.now c.over-given.ensures.inputs c.conditions_of.new.bank c.conditions_of.new.count.terms c.conditions_of.new.known mine refl (Err c.in_err-conditions.field-0.0) c.in_err-conditions.ensures in
-    added_break rs n (terms_in next) c.conditions_of.new.bank c.conditions_of.new.count.terms _ c.in_err-conditions.field-0.0 c.from_residual.result x.0
-    (conditions_refused s rs n row c.requires.sound few c.args.names.now c.requires.names c.args.branch given.terms.now given.vector.now answers c.over-given.ensures.terms c.over-given.ensures.vector answers_are given.inputs.now c.over-given.ensures.inputs c.conditions_of.new.bank c.conditions_of.new.count.terms c.conditions_of.new.known x.1, x.2) c.from_residual.ensures.1
+    let x = conditions_joined s rs n row c.requires.sound few c.args.names.now c.requires.names c.args.branch given.terms.now given.vector.now answers c.over-given.ensures.terms c.over-given.ensures.vector answers_are given.inputs.now c.over-given.ensures.inputs c.conditions_of.new.memory.bank.now c.conditions_of.new.memory.count.now.terms c.conditions_of.new.memory.known mine refl (Err c.in_err-conditions.field-0.0) c.in_err-conditions.ensures.conditions in
+    left (λ rs' n'. Added rs n (terms_in next) rs' n' (StandsFor s rs' n' 22 next) c.from_residual.result) c.conditions_of.new.memory.bank.now _ c.conditions_of.new.memory.count.now.terms _ (search rules) (search rules)
+    (added_break rs n (terms_in next) c.conditions_of.new.memory.bank.now c.conditions_of.new.memory.count.now.terms (StandsFor s c.conditions_of.new.memory.bank.now c.conditions_of.new.memory.count.now.terms 22 next) c.in_err-conditions.field-0.0 c.from_residual.result x.0
+    (conditions_refused s rs n row c.requires.sound few c.args.names.now c.requires.names c.args.branch given.terms.now given.vector.now answers c.over-given.ensures.terms c.over-given.ensures.vector answers_are given.inputs.now c.over-given.ensures.inputs c.conditions_of.new.memory.bank.now c.conditions_of.new.memory.count.now.terms c.conditions_of.new.memory.known x.1, x.2) c.from_residual.ensures.1)
 
 pub returns-in_err-vector : goal.returns-in_err-vector
 returns-in_err-vector c =
@@ -43,12 +48,13 @@ returns-in_err-vector c =
     let answers = take c.questions_of-asked.result c.answers_of.result in
     let answers_are : answers ≡ branch_answers (length s.questions) c.args.branch = (c.answers_of.ensures c.questions_of-asked.result (few_asked s c.args.sheet.now.lawful c.questions_of-asked.result c.questions_of-asked.ensures) ∙ ap (λ k. branch_answers k c.args.branch) c.questions_of-asked.ensures) in
     let next = candidate_with s (row_in s rs row) c.args.names.now (branch_answers (length s.questions) c.args.branch) in
-    let x = conditions_joined s rs n row c.requires.sound few c.args.names.now c.requires.names c.args.branch given.terms.now given.vector.now answers c.over-given.ensures.terms c.over-given.ensures.vector answers_are given.inputs.now c.over-given.ensures.inputs c.conditions_of.new.bank c.conditions_of.new.count.terms c.conditions_of.new.known mine refl (Ok c.in_ok-conditions.conditions) c.in_ok-conditions.ensures in
+    let x = conditions_joined s rs n row c.requires.sound few c.args.names.now c.requires.names c.args.branch given.terms.now given.vector.now answers c.over-given.ensures.terms c.over-given.ensures.vector answers_are given.inputs.now c.over-given.ensures.inputs c.conditions_of.new.memory.bank.now c.conditions_of.new.memory.count.now.terms c.conditions_of.new.memory.known mine refl (Ok c.in_ok-conditions.conditions) c.in_ok-conditions.ensures.conditions in
     let bits_are = ap (λ k. take k row.bits) c.bits_of.ensures in
     let right = λ (k : ℕ). c.resolve-resolved.ensures.chosen k ∙ ap₂ (λ (bs rs' : List Bool). get_or (chosen (λ f. get_or (truths bs rs' [] s.formulas) f false) s.choices) k 0) bits_are answers_are in
-    let y = vector_placed s rs n row c.requires.sound few c.args.names.now c.requires.names c.args.branch given.terms.now given.vector.now answers c.over-given.ensures.terms c.over-given.ensures.vector answers_are given.inputs.now c.over-given.ensures.inputs c.conditions_of.new.bank c.conditions_of.new.count.terms c.conditions_of.new.known x.0 x.1.recalled c.conditions_of.auto.bank c.next_vector.new.bank c.next_vector.new.count.terms c.next_vector.new.known c.resolve-resolved.result.chosen right c.deref-readings.result.now c.deref-readings.ensures.value (Err c.in_err-vector.field-0.0) c.in_err-vector.ensures in
-    added_break rs n (terms_in next) c.next_vector.new.bank c.next_vector.new.count.terms _ c.in_err-vector.field-0.0 c.from_residual-in_err-vector.result y.0
-    (vector_refused s rs n row c.requires.sound few c.args.names.now c.requires.names c.args.branch given.terms.now given.vector.now answers c.over-given.ensures.terms c.over-given.ensures.vector answers_are given.inputs.now c.over-given.ensures.inputs c.conditions_of.new.bank c.conditions_of.new.count.terms c.conditions_of.new.known x.0 x.1.recalled c.conditions_of.auto.bank c.next_vector.new.bank c.next_vector.new.count.terms c.next_vector.new.known y.1 y.2) c.from_residual-in_err-vector.ensures.1
+    let y = vector_placed s rs n row c.requires.sound few c.args.names.now c.requires.names c.args.branch given.terms.now given.vector.now answers c.over-given.ensures.terms c.over-given.ensures.vector answers_are given.inputs.now c.over-given.ensures.inputs c.conditions_of.new.memory.bank.now c.conditions_of.new.memory.count.now.terms c.conditions_of.new.memory.known x.0 x.1.recalled c.conditions_of.ensures.lent.2 c.next_vector.new.memory.bank.now c.next_vector.new.memory.count.now.terms c.next_vector.new.memory.known c.resolve-resolved.result.chosen right c.deref-readings.result.now c.deref-readings.ensures.value (Err c.in_err-vector.field-0.0) c.in_err-vector.ensures.places in
+    left (λ rs' n'. Added rs n (terms_in next) rs' n' (StandsFor s rs' n' 22 next) c.from_residual-in_err-vector.result) c.next_vector.new.memory.bank.now _ c.next_vector.new.memory.count.now.terms _ (search rules) (search rules)
+    (added_break rs n (terms_in next) c.next_vector.new.memory.bank.now c.next_vector.new.memory.count.now.terms (StandsFor s c.next_vector.new.memory.bank.now c.next_vector.new.memory.count.now.terms 22 next) c.in_err-vector.field-0.0 c.from_residual-in_err-vector.result y.0
+    (vector_refused s rs n row c.requires.sound few c.args.names.now c.requires.names c.args.branch given.terms.now given.vector.now answers c.over-given.ensures.terms c.over-given.ensures.vector answers_are given.inputs.now c.over-given.ensures.inputs c.conditions_of.new.memory.bank.now c.conditions_of.new.memory.count.now.terms c.conditions_of.new.memory.known x.0 x.1.recalled c.conditions_of.ensures.lent.2 c.next_vector.new.memory.bank.now c.next_vector.new.memory.count.now.terms c.next_vector.new.memory.known y.1 y.2) c.from_residual-in_err-vector.ensures.1)
 
 pub returns : goal.returns
 returns c =
@@ -62,12 +68,14 @@ returns c =
     let answers = take c.questions_of-asked.result c.answers_of.result in
     let answers_are : answers ≡ branch_answers (length s.questions) c.args.branch = (c.answers_of.ensures c.questions_of-asked.result (few_asked s c.args.sheet.now.lawful c.questions_of-asked.result c.questions_of-asked.ensures) ∙ ap (λ k. branch_answers k c.args.branch) c.questions_of-asked.ensures) in
     let next = candidate_with s (row_in s rs row) c.args.names.now (branch_answers (length s.questions) c.args.branch) in
-    let x = conditions_joined s rs n row c.requires.sound few c.args.names.now c.requires.names c.args.branch given.terms.now given.vector.now answers c.over-given.ensures.terms c.over-given.ensures.vector answers_are given.inputs.now c.over-given.ensures.inputs c.conditions_of.new.bank c.conditions_of.new.count.terms c.conditions_of.new.known mine refl (Ok c.in_ok-conditions.conditions) c.in_ok-conditions.ensures in
+    let x = conditions_joined s rs n row c.requires.sound few c.args.names.now c.requires.names c.args.branch given.terms.now given.vector.now answers c.over-given.ensures.terms c.over-given.ensures.vector answers_are given.inputs.now c.over-given.ensures.inputs c.conditions_of.new.memory.bank.now c.conditions_of.new.memory.count.now.terms c.conditions_of.new.memory.known mine refl (Ok c.in_ok-conditions.conditions) c.in_ok-conditions.ensures.conditions in
     let bits_are = ap (λ k. take k row.bits) c.bits_of.ensures in
     let right = λ (k : ℕ). c.resolve-resolved.ensures.chosen k ∙ ap₂ (λ (bs rs' : List Bool). get_or (chosen (λ f. get_or (truths bs rs' [] s.formulas) f false) s.choices) k 0) bits_are answers_are in
-    let y = vector_placed s rs n row c.requires.sound few c.args.names.now c.requires.names c.args.branch given.terms.now given.vector.now answers c.over-given.ensures.terms c.over-given.ensures.vector answers_are given.inputs.now c.over-given.ensures.inputs c.conditions_of.new.bank c.conditions_of.new.count.terms c.conditions_of.new.known x.0 x.1.recalled c.conditions_of.auto.bank c.next_vector.new.bank c.next_vector.new.count.terms c.next_vector.new.known c.resolve-resolved.result.chosen right c.deref-readings.result.now c.deref-readings.ensures.value (Ok c.in_ok-vector.vector) c.in_ok-vector.ensures in
+    let y = vector_placed s rs n row c.requires.sound few c.args.names.now c.requires.names c.args.branch given.terms.now given.vector.now answers c.over-given.ensures.terms c.over-given.ensures.vector answers_are given.inputs.now c.over-given.ensures.inputs c.conditions_of.new.memory.bank.now c.conditions_of.new.memory.count.now.terms c.conditions_of.new.memory.known x.0 x.1.recalled c.conditions_of.ensures.lent.2 c.next_vector.new.memory.bank.now c.next_vector.new.memory.count.now.terms c.next_vector.new.memory.known c.resolve-resolved.result.chosen right c.deref-readings.result.now c.deref-readings.ensures.value (Ok c.in_ok-vector.vector) c.in_ok-vector.ensures.places in
     let true' = λ (f : ℕ). c.resolve-resolved.ensures.truths f ∙ ap₂ (λ (bs rs' : List Bool). get_or (truths bs rs' [] s.formulas) f false) bits_are answers_are in
     let bits = bits_built s rs n row c.requires.sound few c.args.names.now c.requires.names c.args.branch (take c.bits_of.result row.bits) bits_are c.resolve-resolved.result.truths true' c.next_bits-bits.result c.next_bits-bits.ensures.value in
     let bits_room : length c.next_bits-bits.result ≡ 16 = search rules in
     let vector_room : length c.in_ok-vector.vector ≡ 6 = search rules in
-    row_built s rs n row c.requires.sound few c.args.names.now c.requires.names c.args.branch given.terms.now given.vector.now answers c.over-given.ensures.terms c.over-given.ensures.vector answers_are given.inputs.now c.over-given.ensures.inputs c.conditions_of.new.bank c.conditions_of.new.count.terms c.conditions_of.new.known x.0 x.1.recalled c.conditions_of.auto.bank c.next_vector.new.bank c.next_vector.new.count.terms c.next_vector.new.known c.in_ok-conditions.conditions c.next_bits-bits.result c.in_ok-vector.vector x.1.made y.0 y.1.made bits (omega (arith, few_bits s c.args.sheet.now.lawful)) (omega (arith, few_readings s c.args.sheet.now.lawful))
+    let made : RowRecord = record { bits = c.next_bits-bits.result; vector = c.in_ok-vector.vector; conditions = c.in_ok-conditions.conditions.list; used = c.in_ok-conditions.conditions.used } in
+    left (λ rs' n'. Gained rs n (terms_in next) rs' n' × StandsFor s rs' n' 22 next made) c.next_vector.new.memory.bank.now _ c.next_vector.new.memory.count.now.terms _ (search rules) (search rules)
+    (row_built s rs n row c.requires.sound few c.args.names.now c.requires.names c.args.branch given.terms.now given.vector.now answers c.over-given.ensures.terms c.over-given.ensures.vector answers_are given.inputs.now c.over-given.ensures.inputs c.conditions_of.new.memory.bank.now c.conditions_of.new.memory.count.now.terms c.conditions_of.new.memory.known x.0 x.1.recalled c.conditions_of.ensures.lent.2 c.next_vector.new.memory.bank.now c.next_vector.new.memory.count.now.terms c.next_vector.new.memory.known c.in_ok-conditions.conditions c.next_bits-bits.result c.in_ok-vector.vector x.1.made y.0 y.1.made bits (omega (arith, few_bits s c.args.sheet.now.lawful)) (omega (arith, few_readings s c.args.sheet.now.lawful)))

@@ -1,5 +1,10 @@
 use Rattle.std.proofs.Common.{◌≡◌, ◌≤◌, length, take, refl, ap, ◌∙◌, arith, rules}
-use Rattle.forms.specs.Candidate.{branch_answers}
+use Rattle.forms.specs.Candidate.{branch_answers, candidate_with}
+use Rattle.forms.specs.Counted.{sides_of}
+use Rattle.rows.specs.Records.{row_in}
+use Rattle.candidates.specs.Outcome.{Lists}
+use Rattle.candidates.specs.Working.{Added}
+use Rattle.candidates.proofs.Listing.{left}
 use Rattle.sheet.specs.View.{sheet_of}
 use Rattle.candidates.proofs.Lawfully.{few_questions, few_asked}
 use Rattle.candidates.proofs.Completing.{conditions_joined, conditions_built}
@@ -21,5 +26,7 @@ returns c =
     let mine = take row.used row.conditions in
     let answers = take c.questions_of-asked.result c.answers_of.result in
     let answers_are : answers ≡ branch_answers (length s.questions) c.args.branch = (c.answers_of.ensures c.questions_of-asked.result (few_asked s c.args.sheet.now.lawful c.questions_of-asked.result c.questions_of-asked.ensures) ∙ ap (λ k. branch_answers k c.args.branch) c.questions_of-asked.ensures) in
-    conditions_built s rs n row c.requires.sound few c.args.names.now c.requires.names c.args.branch given.terms.now given.vector.now answers c.over-given.ensures.terms c.over-given.ensures.vector answers_are given.inputs.now c.over-given.ensures.inputs c.conditions_of.new.bank c.conditions_of.new.count.terms c.conditions_of.new.known c.conditions_of.result
-    (conditions_joined s rs n row c.requires.sound few c.args.names.now c.requires.names c.args.branch given.terms.now given.vector.now answers c.over-given.ensures.terms c.over-given.ensures.vector answers_are given.inputs.now c.over-given.ensures.inputs c.conditions_of.new.bank c.conditions_of.new.count.terms c.conditions_of.new.known mine refl c.conditions_of.result c.conditions_of.ensures)
+    let next = candidate_with s (row_in s rs row) c.args.names.now (branch_answers (length s.questions) c.args.branch) in
+    left (λ rs' n'. Added rs n (sides_of next.conditions) rs' n' (Lists rs' n' next.conditions) c.conditions_of.result) c.conditions_of.new.memory.bank.now _ c.conditions_of.new.memory.count.now.terms _ (search rules) (search rules)
+    (conditions_built s rs n row c.requires.sound few c.args.names.now c.requires.names c.args.branch given.terms.now given.vector.now answers c.over-given.ensures.terms c.over-given.ensures.vector answers_are given.inputs.now c.over-given.ensures.inputs c.conditions_of.new.memory.bank.now c.conditions_of.new.memory.count.now.terms c.conditions_of.new.memory.known c.conditions_of.result
+    (conditions_joined s rs n row c.requires.sound few c.args.names.now c.requires.names c.args.branch given.terms.now given.vector.now answers c.over-given.ensures.terms c.over-given.ensures.vector answers_are given.inputs.now c.over-given.ensures.inputs c.conditions_of.new.memory.bank.now c.conditions_of.new.memory.count.now.terms c.conditions_of.new.memory.known mine refl c.conditions_of.result c.conditions_of.ensures.conditions))

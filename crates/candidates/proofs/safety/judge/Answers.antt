@@ -1,9 +1,11 @@
-use Rattle.std.proofs.Common.{◌≡◌, length, take, Ok, Err, refl, sym, ap, ◌∙◌, arith}
+use Rattle.std.proofs.Common.{◌≡◌, length, take, Ok, Err, refl, sym, ap, ◌∙◌, arith, rules}
 use Rattle.sheet.specs.View.{sheet_of}
 use Rattle.forms.specs.Candidate.{branch_answers}
 use Rattle.forms.specs.Counted.{claim_terms}
 use Rattle.rows.specs.Records.{row_in}
-use Rattle.candidates.proofs.Listing.{added_break}
+use Rattle.candidates.specs.Working.{Added}
+use Rattle.candidates.specs.Cases.{Unbroken}
+use Rattle.candidates.proofs.Listing.{added_break, left}
 use Rattle.candidates.proofs.Laying.{claims_asked, all_laid, searched_added}
 use Rattle.candidates.proofs.safety.judge.Goals as goal
 
@@ -18,10 +20,11 @@ returns-in_err-list c =
     let given = c.over-given.result in
     let first = take (length claims) c.answers_of.result in
     let first_is = c.answers_of.ensures (length claims) (omega (arith, ap length claims_are, c.requires.claims)) ∙ ap (λ xs. branch_answers (length xs) 0) claims_are in
-    let rs' = c.ask.new.bank in
-    let n' = c.ask.new.count.terms in
-    let h = claims_asked s rs n form c.requires.sound given.terms.now c.over-given.ensures.terms given.vector.now c.over-given.ensures.vector given.inputs.now c.over-given.ensures.inputs claims claims_are first first_is rs' n' c.ask.new.known (Err c.in_err-list.field-0.0) c.in_err-list.ensures in
-    added_break rs n (claim_terms s (row_in s rs form)) rs' n' _ c.in_err-list.field-0.0 c.from_residual.result h.0 (h.1, h.2) c.from_residual.ensures.1
+    let rs' = c.ask.new.memory.bank.now in
+    let n' = c.ask.new.memory.count.now.terms in
+    let h = claims_asked s rs n form c.requires.sound given.terms.now c.over-given.ensures.terms given.vector.now c.over-given.ensures.vector given.inputs.now c.over-given.ensures.inputs claims claims_are first first_is rs' n' c.ask.new.memory.known (Err c.in_err-list.field-0.0) c.in_err-list.ensures.conditions in
+    left (λ xs m. Added rs n (claim_terms s (row_in s rs form)) xs m (Unbroken s (row_in s rs form)) c.from_residual.result) rs' _ n' _ (search rules) (search rules)
+    (added_break rs n (claim_terms s (row_in s rs form)) rs' n' (Unbroken s (row_in s rs form)) c.in_err-list.field-0.0 c.from_residual.result h.0 (h.1, h.2) c.from_residual.ensures.1)
 
 pub returns : goal.returns
 returns c =
@@ -35,10 +38,11 @@ returns c =
     let given = c.over-given.result in
     let first = take (length claims) c.answers_of.result in
     let first_is = c.answers_of.ensures (length claims) (omega (arith, ap length claims_are, c.requires.claims)) ∙ ap (λ xs. branch_answers (length xs) 0) claims_are in
-    let rs' = c.ask.new.bank in
-    let n' = c.ask.new.count.terms in
+    let rs' = c.ask.new.memory.bank.now in
+    let n' = c.ask.new.memory.count.now.terms in
     let list = c.in_ok-list.list in
-    let h = claims_asked s rs n form c.requires.sound given.terms.now c.over-given.ensures.terms given.vector.now c.over-given.ensures.vector given.inputs.now c.over-given.ensures.inputs claims claims_are first first_is rs' n' c.ask.new.known (Ok list) c.in_ok-list.ensures in
+    let h = claims_asked s rs n form c.requires.sound given.terms.now c.over-given.ensures.terms given.vector.now c.over-given.ensures.vector given.inputs.now c.over-given.ensures.inputs claims claims_are first first_is rs' n' c.ask.new.memory.known (Ok list) c.in_ok-list.ensures.conditions in
     let laid = all_laid s rs n form c.requires.sound rs' n' h.0.extends (length claims) (ap length claims_are) list h.1 (take form.used form.conditions) refl c.append-conditions.result.list c.append-conditions.result.used c.append-conditions.ensures.used c.append-conditions.ensures.front c.append-conditions.ensures.back in
     let bits : row.bits ≡ take c.bits_of.result form.bits = ap (λ k. take k form.bits) (sym c.bits_of.ensures) in
-    searched_added s row rs n (claim_terms s row) rs' n' h.0 c.is_unbroken.result (c.is_unbroken.ensures row laid bits c.requires.labelled)
+    left (λ xs m. Added rs n (claim_terms s row) xs m (Unbroken s row) c.is_unbroken.result) rs' _ n' _ (search rules) (search rules)
+    (searched_added s row rs n (claim_terms s row) rs' n' h.0 c.is_unbroken.result (c.is_unbroken.ensures row laid bits c.requires.labelled))

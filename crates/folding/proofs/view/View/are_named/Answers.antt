@@ -1,25 +1,36 @@
-use Rattle.std.proofs.Common.{◌≡◌, true, sym, refl, ◌∙◌, subst, arith}
-use Rattle.std.specs.List.{AllByRecursion as All}
-use Rattle.std.proofs.lemmas.Bool.{true≢false}
-use Rattle.std.proofs.lemmas.List.{take_all}
+use Rattle.std.proofs.Common.{◌≡◌, ◌<◌, Bool, true, List, [], ◌∷◌, length, map, Decides, refl, sym, ap, subst, rules, tests, arith}
+use Rattle.std.specs.List.{AllByRecursion as All, list_all}
+use Rattle.std.proofs.lemmas.Bool.{and_parts, and_from}
+use Rattle.std.proofs.lemmas.Iterator.Search.{all_from_yields_List}
+use Rattle.terms.specs.declared.Condition.{Condition}
+use Rattle.terms.specs.Terms.{Literal}
 use Rattle.terms.specs.Bank.{literal_of}
-use Rattle.closure.specs.Labels.{literals, no_condition}
 use Rattle.forms.specs.Form.{is_named}
-use Rattle.folding.proofs.Entailed.{all_taken_more, all_at}
+use Rattle.std.proofs.lemmas.List.{get_or_read_under}
+use Rattle.std.proofs.lemmas.Iterator.{YieldsList-from_slice}
+use Rattle.std.proofs.lemmas.Iterator.Adapters.{serves_from_places}
+use Rattle.closure.specs.Labels.{literals, no_condition}
 use Rattle.folding.proofs.view.View.are_named.Goals as goal
 
-pub returns-then-not-is_named : goal.returns-then-not-is_named
-returns-then-not-is_named c vector h =
-    let rs = c.args.self.now.records.now in (
-      λ e. absurd (true≢false (sym e)),
-      λ all. absurd (true≢false (sym (all_at (λ d. is_named vector d ≡ true) (literal_of rs) c.args.conditions.now no_condition c.loop-condition.condition-index c.loop-condition-test.true all) ∙ (sym (c.is_named.ensures vector h) ∙ c.if-not-is_named.true))),
-    )
+pub all-requires-clause-callable : goal.all-requires-clause-callable
+all-requires-clause-callable c =
+    let cs = c.args.conditions.now in
+    let n = c.args.self.now.count.terms in
+    serves_from_places (YieldsList-from_slice cs cc) (λ x q e. search (rules, tests))
+    (λ x k lt is.
+    let here = get_or_read_under cs k (length cs) x.now no_condition is lt refl in
+    let left : x.now.left < n = omega (arith, c.requires.lefts k lt, ap (λ d. d.left) here) in
+    let right : x.now.right < n = omega (arith, c.requires.rights k lt, ap (λ d. d.right) here) in
+    search (rules, tests))
 
-pub loop-condition-preserved : goal.loop-condition-preserved
-loop-condition-preserved c vector h =
-    let rs = c.args.self.now.records.now in
-    all_taken_more (λ d. is_named vector d ≡ true) (literal_of rs) c.args.conditions.now no_condition c.loop-condition.condition-index c.loop-condition-test.true (c.loop-condition.invariant vector h) (sym (c.is_named.ensures vector h) ∙ c.if-not-is_named.false)
+all_decided : (test : Literal → Bool) (f : Condition → Literal) (cs : List Condition) → Decides (list_all (λ d. test (f d)) cs) (All (λ l. test l ≡ true) (map f cs))
+all_decided test f [] = (λ _. tt, λ _. refl)
+all_decided test f (d ∷ cs) =
+    let r = all_decided test f cs in (λ e. let p = and_parts _ _ e in (p.0, r.0 p.1), λ h. and_from _ _ h.0 (r.1 h.1))
 
 pub returns : goal.returns
 returns c vector h =
-    (λ _. subst (λ cs. All (λ d. is_named vector d ≡ true) (literals c.args.self.now.records.now cs)) (take_all c.loop-condition.condition-index c.args.conditions.now (omega (arith, c.loop-condition-test.false))) (c.loop-condition.invariant vector h), λ _. refl)
+    let rs = c.args.self.now.records.now in
+    let cs = c.args.conditions.now in
+    let is = all_from_yields_List (λ d. is_named vector (literal_of rs d)) _ _ c.all.result c.all.ensures.ran (YieldsList-from_slice cs cc) (λ x b q k. search (rules, tests)) in
+    subst (λ b. Decides b (All (λ l. is_named vector l ≡ true) (literals rs cs))) (sym is) (all_decided (is_named vector) (literal_of rs) cs)

@@ -1,4 +1,0 @@
-use Rattle.candidates.proofs.instantiating.+place_below.Given as goal
-
-abbrev pub decreases-place_below : goal.decreases-place_below
-decreases-place_below l = l.below
