@@ -23,21 +23,6 @@ filled_more d out values k x room inside is old =
     let b = take_more values k d inside in
     a ∙ (ap (λ l. l ++ x ∷ []) old ∙ (ap (λ y. take k values ++ y ∷ []) is ∙ sym b))
 
--- what is filled in as far as the values go agrees everywhere
-pub filled_all : {V : Type 0} (d : V) (out values : List V) → ((k : ℕ) → k < length out → get_or out k d ≡ get_or values k d) → length values ≤ length out → (k : ℕ) → get_or out k d ≡ get_or values k d
-filled_all d out values h long k = ⊎_elim (λ lt. h k lt) (λ ge. get_or_past out k d ge ∙ sym (get_or_past values k d (omega arith))) (cases_lt k (length out))
-
--- Where each call gives h of its number and leaves the closure as it is, each place is h of its number.
-made-from : {F B : Type 0} (g : Mut F (ℕ × Unit {0}) B) (f : F) (h : ℕ → B) → ((k : ℕ) (y : B) (q : F) → Called g f (k, tt) y q → (q ≡ f) × (y ≡ h k)) → (ys : List B) (i n : ℕ) → IsFromFnResultFrom g f ys i n → (k : ℕ) (d : B) → k < n → get_or ys (i + k) d ≡ h (i + k)
-made-from g f h says ys i zero made k d lt = absurd (omega arith)
-made-from {F} {B} g f h says ys i (suc n) made zero d lt = let z : i + 0 ≡ i = omega arith in rw z (made.2.1 d ∙ (says i made.1 made.0 made.3).1)
-made-from {F} {B} g f h says ys i (suc n) made (suc k) d lt =
-    let s : i + suc k ≡ i + 1 + k = omega arith in
-    rw s (made-from g f h says ys (i + 1) n (subst (λ p. IsFromFnResultFrom g p ys (i + 1) n) (says i made.1 made.0 made.3).0 made.4) k d (omega arith))
-
-pub made : {F B : Type 0} (g : Mut F (ℕ × Unit {0}) B) (f : F) (h : ℕ → B) → ((k : ℕ) (y : B) (q : F) → Called g f (k, tt) y q → (q ≡ f) × (y ≡ h k)) → (ys : List B) (n : ℕ) → IsFromFnResult g f ys n → (k : ℕ) (d : B) → k < n → get_or ys k d ≡ h k
-made g f h says ys n m k d lt = let z : 0 + k ≡ k = omega arith in rw z at (made-from g f h says ys 0 n m.each k d lt)
-
 -- a branch's answers are its bits
 answers_at : (count branch k : ℕ) → k < count → get_or (branch_answers count branch) k false ≡ eqb (branch / 2 ^ k % 2) 1
 answers_at zero branch k lt = absurd (omega arith)

@@ -14,7 +14,7 @@ use Rattle.rows.specs.declared.row.RowRecord.{RowRecord}
 use Rattle.rows.specs.Records.{row_in, Inside}
 use Rattle.candidates.specs.declared.conditions.Conditions.{Conditions}
 use Rattle.candidates.specs.Outcome.{CandidateMade, CandidateCovering, ConditionsMade, ConditionsRefuting}
-use Rattle.candidates.proofs.Lawfully.{lawful_sheet}
+use Rattle.sheet.proofs.Fewness.{lawful_sheet}
 
 row_shaped : (s : System) (rs : List TermRecord) (n most : ℕ) (row : RowRecord) → Inside s n most row → RowOf s (row_in s rs row)
 row_shaped s rs n most row inside = length-map (take (length s.readings) row.vector) (term_at rs) ∙ length-take-le (length s.readings) row.vector inside.readings

@@ -19,7 +19,7 @@ use Rattle.candidates.specs.Cases.{Unbroken}
 use Rattle.candidates.specs.Judged.{Judgeable, Verdict, Judged}
 use Rattle.candidates.specs.Outcome.{Kept}
 use Rattle.candidates.proofs.Answering.{kept_back}
-use Rattle.candidates.proofs.Lawfully.{lawful_sheet}
+use Rattle.sheet.proofs.Fewness.{lawful_sheet}
 
 module _ (s : System) (lawful : ∥ Lawful s ∥₁) where
   module _ (rs : List TermRecord) (n : ℕ) (form : RowRecord) where

@@ -23,66 +23,66 @@ pub enum Layer {
 #[derive(Clone, Copy, Debug, PartialEq, Eq)]
 pub enum SheetFault {
     /// The bytes end before the record does, or before the end record.
-    Truncated,
+    Truncated = 1,
     /// No record begins with this letter.
-    UnknownLetter,
+    UnknownLetter = 2,
     /// A body byte is against the format or a rule.
-    BadBody,
+    BadBody = 3,
     /// One more of a letter than its most.
-    TooMany,
+    TooMany = 4,
     /// A second next value, invariant or height bound for the same thing.
-    Repeated,
+    Repeated = 5,
     /// The end comes without an invariant or without a height bound.
-    Incomplete,
+    Incomplete = 6,
     /// Bytes follow the end record.
-    TrailingBytes,
+    TrailingBytes = 7,
 }
 
 /// Why the check table refuses a call.
 #[derive(Clone, Copy, Debug, PartialEq, Eq)]
 pub enum TableFault {
     /// The row limit or the length of a lent memory is not one that a table takes.
-    BadMemory,
+    BadMemory = 8,
     /// Some model makes the invariant false in a configuration that row 0 covers.
-    UnsafeStart,
+    UnsafeStart = 9,
     /// There is no such row or branch.
-    NoSuchBranch,
+    NoSuchBranch = 10,
     /// The branch is not waiting.
-    NotWaiting,
+    NotWaiting = 11,
     /// The ticket's branch is not out at this table.
-    NotOut,
+    NotOut = 12,
     /// The height is above the sheet's bound.
-    HeightAboveBound,
+    HeightAboveBound = 13,
     /// A name is needed, and none of the 32 is left.
-    NamesExhausted,
+    NamesExhausted = 14,
     /// More than 512 different terms are needed.
-    TermsExhausted,
+    TermsExhausted = 15,
     /// Some model and values meet the candidate's conditions.
-    Satisfiable,
+    Satisfiable = 16,
     /// No renaming fits.
-    NoRenaming,
+    NoRenaming = 17,
     /// Some model makes the invariant false in a configuration that the form covers.
-    UnsafeForm,
+    UnsafeForm = 18,
     /// The row limit is reached.
-    RowLimit,
+    RowLimit = 19,
 }
 
 /// Why the bench refuses a run.
 #[derive(Clone, Copy, Debug, PartialEq, Eq)]
 pub enum BenchFault {
     /// More than 10,000 steps.
-    TooManySteps,
+    TooManySteps = 20,
     /// The inputs are not as many as the steps and the sheet ask for.
-    InputsLength,
+    InputsLength = 21,
     /// There are not 8 start values.
-    StartsLength,
+    StartsLength = 22,
 }
 
 /// Why a plant model is not made.
 #[derive(Clone, Copy, Debug, PartialEq, Eq)]
 pub enum ModelFault {
     /// An affine model's modulus is 0.
-    ZeroModulus,
+    ZeroModulus = 23,
 }
 
 /// Where a sheet's record stands: its number and the place of its first byte, both from 0.
@@ -107,12 +107,10 @@ impl Fault {
         ensures { result ≡ (values_of self.now).number }
     {
         match self {
-            Fault::Sheet(fault, _) => sheet_number(*fault),
-            Fault::Table(fault) => table_number(*fault),
-            Fault::Bench(BenchFault::TooManySteps) => 20,
-            Fault::Bench(BenchFault::InputsLength) => 21,
-            Fault::Bench(BenchFault::StartsLength) => 22,
-            Fault::Model(ModelFault::ZeroModulus) => 23,
+            Fault::Sheet(fault, _) => *fault as u8,
+            Fault::Table(fault) => *fault as u8,
+            Fault::Bench(fault) => *fault as u8,
+            Fault::Model(fault) => *fault as u8,
         }
     }
 
@@ -139,6 +137,7 @@ impl Fault {
     }
 }
 
+// The conversions are written out, since a derived `From` has no contract.
 impl From<TableFault> for Fault {
     ghost from_gives = { λ f r. r ≡ Fault.Table f };
 
@@ -152,39 +151,6 @@ impl From<BenchFault> for Fault {
 
     fn from(fault: BenchFault) -> Fault {
         Fault::Bench(fault)
-    }
-}
-
-fn sheet_number(fault: SheetFault) -> u8
-    ensures { (p : Place) → result ≡ (values_of (Fault.Sheet fault p)).number }
-{
-    match fault {
-        SheetFault::Truncated => 1,
-        SheetFault::UnknownLetter => 2,
-        SheetFault::BadBody => 3,
-        SheetFault::TooMany => 4,
-        SheetFault::Repeated => 5,
-        SheetFault::Incomplete => 6,
-        SheetFault::TrailingBytes => 7,
-    }
-}
-
-fn table_number(fault: TableFault) -> u8
-    ensures { result ≡ (values_of (Fault.Table fault)).number }
-{
-    match fault {
-        TableFault::BadMemory => 8,
-        TableFault::UnsafeStart => 9,
-        TableFault::NoSuchBranch => 10,
-        TableFault::NotWaiting => 11,
-        TableFault::NotOut => 12,
-        TableFault::HeightAboveBound => 13,
-        TableFault::NamesExhausted => 14,
-        TableFault::TermsExhausted => 15,
-        TableFault::Satisfiable => 16,
-        TableFault::NoRenaming => 17,
-        TableFault::UnsafeForm => 18,
-        TableFault::RowLimit => 19,
     }
 }
 
@@ -214,6 +180,7 @@ pub enum Failure {
     Memory,
 }
 
+// Written out, as above.
 impl From<Fault> for Failure {
     ghost from_gives = { λ f r. r ≡ Failure.Fault f };
 

@@ -1,5 +1,7 @@
 -- Lists by number.
-use Rattle.std.proofs.Common.{◌≡◌, ℕ, zero, suc, ◌+◌, ◌<◌, ◌≤◌, List, [], ◌∷◌, length, get_or, sym, refl, ap, ◌∙◌, add-zero, arith}
+use Rattle.std.proofs.Common.{◌≡◌, ℕ, zero, suc, ◌+◌, ◌<◌, ◌≤◌, List, [], ◌∷◌, length, get_or, Some, None, Option, Bor, sym, refl, ap, ◌∙◌, add-zero, arith, rules}
+use Rattle.std.specs.Prelude.{MatchOption}
+use Rattle.std.specs.Slice.{IsItemAt}
 use Rattle.std.proofs.lemmas.List.{get_or_past}
 use Rattle.sheet.specs.Runs.{numbered}
 
@@ -21,3 +23,8 @@ numbered_past f xs k d h = get_or_past (numbered f 0 xs) k d (omega (arith, numb
 -- x is the element of number k
 pub numbered_got : {X Y : Type 0} (f : ℕ → X → Y) (xs : List X) (k : ℕ) (x : X) (d : Y) → k < length xs → x ≡ get_or xs k x → f k x ≡ get_or (numbered f 0 xs) k d
 numbered_got f xs k x d h is = ap (f k) is ∙ sym (numbered_at f xs k d x h)
+
+-- what is read from an element, where there is one
+pub numbered_item : {X V : Type 0} (f : ℕ → X → V) (xs : List X) (k : ℕ) (d r : V) (P : Bor X → Type 0) (o : Option (Bor X)) → IsItemAt xs k o → ((x : Bor X) → P x → r ≡ f k x.now) → MatchOption o (r ≡ d) P → r ≡ get_or (numbered f 0 xs) k d
+numbered_item f xs k d r P None item says none = none ∙ sym (numbered_past f xs k d (search (item, rules)))
+numbered_item f xs k d r P (Some x) item says some = says x some ∙ numbered_got f xs k x.now d (search (item, rules)) (search (item, rules))

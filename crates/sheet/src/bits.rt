@@ -18,20 +18,15 @@ fn start_at(bits: &[Bit], n: usize) -> bool
 fn next_of(bit: Bit, old: bool, truths: &[bool]) -> bool
     ensures { result ≡ or_kept (λ f. get_or truths.now f false) old bit.next }
 {
-    match bit.next {
-        Some(formula) => truths.get(formula as usize).copied().unwrap_or(false),
-        None => old,
-    }
+    bit.next
+        .map_or(old, |f| truths.get(f as usize).copied().unwrap_or(false))
 }
 
 // The next value of bit n, and false past the last.
 fn next_at(bits: &[Bit], old: &[bool], truths: &[bool], n: usize) -> bool
     ensures { result ≡ slice_index_or (numbered (λ n b. or_kept (λ f. get_or truths.now f false) (slice_index_or old.now n false) b.next) 0 bits.now) n false }
 {
-    match bits.get(n) {
-        Some(bit) => next_of(*bit, old.get(n).copied().unwrap_or(false), truths),
-        None => false,
-    }
+    bits.get(n).is_some_and(|bit| next_of(*bit, old.get(n).copied().unwrap_or(false), truths))
 }
 
 impl Sheet {

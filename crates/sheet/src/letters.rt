@@ -61,6 +61,8 @@ impl Kind {
 }
 
 impl Record {
+    /// The kind that the record is of.
+    // Not derived: a kind stands for its letter, which begins a record and the end alike.
     pub fn kind(&self) -> Kind
         ensures { result ≡ kind_of self.now }
     {

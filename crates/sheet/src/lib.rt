@@ -19,3 +19,4 @@ pub use syntax::{
     Args, Bit, Choice, Equation, Formula, FormulaEntry, FormulaInfo, Reading, Record, Start, Term,
     TermEntry, TermInfo,
 };
+pub use truth::Resolved;

@@ -2,6 +2,7 @@
 ghost use Rattle.std.specs.Prelude.{◌≡◌, Some, None, slice_index_or, slice_set};
 
 /// What is known of thing n; none past the end.
+// One call of the library with its default, named here for both memories.
 pub fn recall<T: Copy>(known: &[Option<T>], n: usize) -> Option<T>
     ensures { result ≡ slice_index_or known.now n None }
 {

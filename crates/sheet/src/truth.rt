@@ -1,6 +1,6 @@
 //! The truth of a formula and the term of a choice, by recursion on falling numbers. What is known
 //! already is not worked out again, so however often operands are shared, each is worked out once.
-ghost use Rattle.std.specs.Prelude.{◌≡◌, ℕ, ◌<◌, false, length, get_or, slice_index, slice_index_or};
+ghost use Rattle.std.specs.Prelude.{◌≡◌, ℕ, ◌<◌, false, [], length, get_or, slice_index, slice_index_or};
 ghost use Rattle.sheet.specs.Truth.{truths, chosen};
 ghost use Rattle.sheet.specs.Memo.{Remembers, before, operands_of, connected, grounded, truths_from};
 ghost use Rattle.sheet.specs.View.{sheet_of};
@@ -170,34 +170,44 @@ impl<'a> Terms<'a> {
     }
 }
 
+/// The truth of each formula, and the term that each choice comes to.
+#[derive(Clone, Copy, Debug, PartialEq, Eq)]
+pub struct Resolved {
+    pub truths: [bool; MOST],
+    pub chosen: [u8; MOST],
+}
+
 impl Sheet {
+    // What is known of the formulas' truths before any is worked out.
+    fn unknown<'a>(
+        &'a self,
+        bits: &'a [bool],
+        questions: &'a [bool],
+        claims: &'a [bool],
+    ) -> Truths<'a>
+        ensures { truths_from result.given ≡ truths bits.now questions.now claims.now (sheet_of self.now).formulas }
+    {
+        Truths::new(Given {
+            formulas: self.parts.formulas.as_slice(),
+            bits,
+            questions,
+            claims,
+        })
+    }
+
     /// The truth of a formula, from the bits and the answers to the questions and the claims. Past the
     /// end everything is false.
     pub fn truth(&self, formula: u8, bits: &[bool], questions: &[bool], claims: &[bool]) -> bool
         ensures { result ≡ slice_index_or (truths bits.now questions.now claims.now (sheet_of self.now).formulas) formula false }
     {
-        let formulas = self.parts.formulas.as_slice();
-        let given = Given {
-            formulas,
-            bits,
-            questions,
-            claims,
-        };
-        Truths::new(given).of(formula as usize)
+        self.unknown(bits, questions, claims).of(formula as usize)
     }
 
     /// The truth of every formula that has a place in `out`, each worked out once.
     pub fn truths(&self, bits: &[bool], questions: &[bool], claims: &[bool], out: &mut [bool])
         ensures { (k : ℕ) → k < length out.old → slice_index_or out.new k false ≡ slice_index_or (truths bits.now questions.now claims.now (sheet_of self.now).formulas) k false }
     {
-        let formulas = self.parts.formulas.as_slice();
-        let given = Given {
-            formulas,
-            bits,
-            questions,
-            claims,
-        };
-        let mut known = Truths::new(given);
+        let mut known = self.unknown(bits, questions, claims);
         for (n, slot) in out.iter_mut().enumerate() {
             *slot = known.of(n);
         }
@@ -220,5 +230,18 @@ impl Sheet {
         for (n, slot) in out.iter_mut().enumerate() {
             *slot = known.of(n);
         }
+    }
+
+    /// What holds on a branch: the truth of each formula and the term of each choice, from the bits and
+    /// the answers to the questions. Past the end formulas are false, and choices are 0.
+    pub fn resolve(&self, bits: &[bool], answers: &[bool]) -> Resolved
+        ensures truths { (f : ℕ) → slice_index_or result.truths f false ≡ slice_index_or (truths bits.now answers.now [] (sheet_of self.now).formulas) f false }
+        ensures chosen { (k : ℕ) → slice_index result.chosen k ≡ slice_index (chosen (λ f. get_or (truths bits.now answers.now [] (sheet_of self.now).formulas) f false) (sheet_of self.now).choices) k }
+    {
+        let mut truths = [false; MOST];
+        self.truths(bits, answers, &[], &mut truths);
+        let mut chosen = [0; MOST];
+        self.terms_of_choices(&truths, &mut chosen);
+        Resolved { truths, chosen }
     }
 }

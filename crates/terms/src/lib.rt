@@ -59,6 +59,7 @@ impl Condition {
 }
 
 /// How many records of the bank are in use.
+// Beside the bank and not in one struct with it, since callers lend each by itself.
 #[derive(Clone, Copy, Debug, PartialEq, Eq)]
 pub struct Count {
     pub terms: u16,

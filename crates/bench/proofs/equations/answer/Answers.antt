@@ -9,4 +9,4 @@ pub returns : goal.returns
 returns g c =
     let all = answers c.args.values.now c.args.equations.now in
     let long = sym (length-map c.args.equations.now (equal c.args.values.now)) in
-    begins_same false c.from_fn.result all _ long (begins _ _ all false (λ k y q call. search rules) c.from_fn.result g.row.N c.from_fn.ensures.items _ long c.requires)
+    begins_same false c.from_fn.result all _ long (begins all false (λ k y q call. search rules) c.from_fn.result g.row.N c.from_fn.ensures.items _ long c.requires)

@@ -4,8 +4,7 @@ use Rattle.sheet.specs.View.{sheet_of}
 use Rattle.forms.specs.Candidate.{branch_answers, candidate_with}
 use Rattle.forms.specs.Counted.{terms_in}
 use Rattle.rows.specs.Records.{row_in}
-use Rattle.sheet.proofs.Fewness.{few_bits}
-use Rattle.candidates.proofs.Lawfully.{few_questions, few_asked, few_readings}
+use Rattle.sheet.proofs.Fewness.{few_bits, few_questions, few_asked, few_readings}
 use Rattle.banks.specs.Gains.{Gained}
 use Rattle.rows.specs.declared.row.RowRecord.{RowRecord}
 use Rattle.candidates.specs.Outcome.{StandsFor}

@@ -6,7 +6,7 @@ use Rattle.candidates.specs.Outcome.{Lists}
 use Rattle.candidates.specs.Working.{Added}
 use Rattle.candidates.proofs.Listing.{left}
 use Rattle.sheet.specs.View.{sheet_of}
-use Rattle.candidates.proofs.Lawfully.{few_questions, few_asked}
+use Rattle.sheet.proofs.Fewness.{few_questions, few_asked}
 use Rattle.candidates.proofs.Completing.{conditions_joined, conditions_built}
 use Rattle.candidates.proofs.building.build_conditions.Goals as goal
 

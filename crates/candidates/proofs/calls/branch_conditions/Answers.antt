@@ -1,6 +1,6 @@
 use Rattle.std.proofs.Common.{◌≤◌, take, rules}
 use Rattle.sheet.specs.View.{sheet_of}
-use Rattle.candidates.proofs.Lawfully.{few_inputs}
+use Rattle.sheet.proofs.Fewness.{few_inputs}
 use Rattle.candidates.proofs.Answering.{conditions_break, conditions_counted, conditions_answered, small_part}
 use Rattle.candidates.proofs.Purposes.{conditions_refuting}
 use Rattle.candidates.proofs.calls.branch_conditions.Goals as goal

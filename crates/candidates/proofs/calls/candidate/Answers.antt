@@ -1,6 +1,6 @@
 use Rattle.std.proofs.Common.{◌≤◌, take, rules}
 use Rattle.sheet.specs.View.{sheet_of}
-use Rattle.candidates.proofs.Lawfully.{few_inputs}
+use Rattle.sheet.proofs.Fewness.{few_inputs}
 use Rattle.candidates.proofs.Answering.{candidate_break, candidate_counted, candidate_answered, small_part}
 use Rattle.candidates.proofs.Purposes.{candidate_covering}
 use Rattle.candidates.proofs.calls.candidate.Goals as goal

@@ -1,7 +1,7 @@
 use Rattle.std.proofs.Common.{sym}
 use Rattle.std.proofs.Math.Path.{fun_ext}
 use Rattle.sheet.specs.View.{sheet_of}
-use Rattle.candidates.proofs.Lawfully.{few_inputs}
+use Rattle.sheet.proofs.Fewness.{few_inputs}
 use Rattle.candidates.proofs.Answering.{prepared}
 use Rattle.candidates.proofs.door.prepare.Goals as goal
 

@@ -1,6 +1,6 @@
 use Rattle.std.proofs.Common.{rules}
 use Rattle.sheet.specs.View.{sheet_of}
-use Rattle.candidates.proofs.Lawfully.{few_claims}
+use Rattle.sheet.proofs.Fewness.{few_claims}
 use Rattle.candidates.proofs.Verdicts.{judged_by, kept_after}
 use Rattle.candidates.proofs.safety.is_safe.Goals as goal
 

@@ -1,10 +1,9 @@
 use Rattle.std.proofs.Common.{◌≡◌, length, replicate, Ok, Err, arith, rules}
-use Rattle.sheet.proofs.Fewness.{few_bits}
+use Rattle.sheet.proofs.Fewness.{few_bits, few_readings}
 use Rattle.sheet.specs.View.{sheet_of}
 use Rattle.closure.specs.Labels.{no_condition}
 use Rattle.forms.specs.Rows.{first_row}
 use Rattle.forms.specs.Counted.{terms_in}
-use Rattle.candidates.proofs.Lawfully.{few_readings}
 use Rattle.candidates.proofs.Listing.{added_break}
 use Rattle.candidates.proofs.Answering.{started_over, first_made, first_refused}
 use Rattle.candidates.proofs.starting.start_row.Goals as goal

@@ -1,4 +1,4 @@
-use Rattle.std.proofs.Common.{◌≡◌, ℕ, ◌≤◌, Bool, true, false, cond, List, length, get_or, None, sym, ap, ◌∙◌, ap₂, Bor, rules}
+use Rattle.std.proofs.Common.{◌≡◌, ℕ, ◌≤◌, Bool, false, cond, List, length, get_or, None, sym, ap, ◌∙◌, ap₂, Bor, rules}
 use Rattle.sheet.specs.declared.syntax.Choice.{Choice}
 use Rattle.sheet.specs.declared.truth.Terms.{Terms}
 use Rattle.sheet.specs.Memo.{before}
