@@ -1,13 +1,40 @@
 -- The way down from a term that is too high.
-use Rattle.std.proofs.Common.{◌≡◌, ℕ, suc, ◌-◌, ◌<◌, max, cond, eqb, List, get_or, sym, refl, ap, ◌∙◌, subst, arith}
-use Rattle.std.proofs.lemmas.Bool.{cond-true, cond-false, eq-eqb, ne_eqb}
+use Rattle.std.proofs.Common.{◌≡◌, ℕ, suc, ◌-◌, ◌<◌, Bool, true, false, max, cond, eqb, nat_lt, List, [], ◌∷◌, length, map, get_or, Some, None, Option, option_map, MatchOption, sym, refl, ap, ◌∙◌, subst, arith}
+use Rattle.std.proofs.lemmas.Bool.{cond-true, cond-false, eq-eqb, ne_eqb, ltb-true}
+use Rattle.std.specs.List.{find}
 use Rattle.terms.specs.declared.Node.{Node}
 use Rattle.terms.specs.declared.Node.TheVariants.{Unary, Binary, Ternary}
 use Rattle.terms.specs.declared.TermRecord.{TermRecord}
 use Rattle.terms.specs.Terms.{Term, unary, binary, ternary, height}
 use Rattle.terms.specs.Bank.{Bank, Fit, no_record, node_at, term_at, term_of}
 use Rattle.terms.proofs.Standing.{term_at-ordered}
-use Rattle.forms.specs.Form.{lowest}
+use Rattle.forms.specs.Form.{first_higher, lowest}
+
+-- whether the term at a place is higher than the bound, by its record
+abbrev pub is_higher : List TermRecord → ℕ → ℕ → Bool
+is_higher rs bound p = nat_lt bound (get_or rs p no_record).height
+
+-- what the first such place is
+pub found : (rs : List TermRecord) (n : ℕ) → Bank rs n → (bound : ℕ) (ps : List ℕ) → ((k : ℕ) → k < length ps → get_or ps k 0 < n) → (r : Option ℕ) → option_map (λ p. p) r ≡ find (is_higher rs bound) ps → MatchOption r (first_higher bound (map (term_at rs) ps) ≡ None) (λ p. (p < n) × (first_higher bound (map (term_at rs) ps) ≡ Some (term_at rs p)) × (bound < height (term_at rs p)))
+found rs n bank bound ps below r is = of r is
+  where
+    Found : Option ℕ → Option Term → Type 0
+    Found place first = MatchOption place (first ≡ None) (λ p. (p < n) × (first ≡ Some (term_at rs p)) × (bound < height (term_at rs p)))
+
+    from : (b : Bool) (p : ℕ) (qs : List ℕ) → p < n → nat_lt bound (height (term_at rs p)) ≡ b → Found (find (is_higher rs bound) qs) (first_higher bound (map (term_at rs) qs)) → Found (cond b (Some p) (find (is_higher rs bound) qs)) (cond b (Some (term_at rs p)) (first_higher bound (map (term_at rs) qs)))
+    from true p qs inside high others = (inside, refl, ltb-true bound (height (term_at rs p)) high)
+    from false p qs inside low others = others
+
+    all : (qs : List ℕ) → ((k : ℕ) → k < length qs → get_or qs k 0 < n) → Found (find (is_higher rs bound) qs) (first_higher bound (map (term_at rs) qs))
+    all [] lower = refl
+    all (q ∷ qs) lower =
+        let inside : q < n = lower 0 (omega arith) in
+        let same : is_higher rs bound q ≡ nat_lt bound (height (term_at rs q)) = ap (nat_lt bound) (bank.heights q inside) in
+        rw same (from (nat_lt bound (height (term_at rs q))) q qs inside refl (all qs (λ k lt. lower (suc k) (omega arith))))
+
+    of : (r : Option ℕ) → option_map (λ p. p) r ≡ find (is_higher rs bound) ps → Found r (first_higher bound (map (term_at rs) ps))
+    of None is = subst (λ o. Found o (first_higher bound (map (term_at rs) ps))) (sym is) (all ps below)
+    of (Some p) is = subst (λ o. Found o (first_higher bound (map (term_at rs) ps))) (sym is) (all ps below)
 
 down_unary : (f : ℕ) (a : Term) → 1 < suc (height a) → lowest (unary f a) ≡ lowest a
 down_unary f a high = cond-false (eqb (height a) 0) (unary f a) (lowest a) (ne_eqb (height a) 0 (omega arith))

@@ -24,12 +24,10 @@ impl View<'_> {
         requires { (k : ℕ) → k < length places.now → slice_index places.now k < self.now.count.terms }
         ensures { MatchOption result (first_higher bound (map (term_at self.now.records.now) places.now) ≡ None) (λ p. (p < self.now.count.terms) × (first_higher bound (map (term_at self.now.records.now) places.now) ≡ Some (term_at self.now.records.now p)) × (bound < height (term_at self.now.records.now p))) }
     {
-        for place in places {
-            if self.records[*place as usize].height > bound as u16 {
-                return Some(*place);
-            }
-        }
-        None
+        places
+            .iter()
+            .copied()
+            .find(|place| self.records[*place as usize].height > bound as u16)
     }
 
     /// The first argument exactly one lower than the term, which is higher than 1.
@@ -79,6 +77,8 @@ impl View<'_> {
     }
 }
 
+// A row comes beside its bank, here and below: the bank grows with each cut, so a struct of both would lend out what the
+// caller lent.
 /// The row with the change made throughout. What a place became is remembered for this change alone.
 fn rewrite_row(
     sheet: &Sheet,

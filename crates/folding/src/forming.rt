@@ -25,19 +25,12 @@ pub fn form(
     if !is_sound(sheet, bank, count.terms as usize, most, row) {
         return Err(TableFault::BadMemory);
     }
-    let saved = count.terms;
-    match cut(sheet, bank, count, height, *row) {
-        Ok(low) => {
-            let view = View {
-                records: bank,
-                count: *count,
-            };
-            Ok(view.trim_row(sheet, height, low))
-        }
-        // No guard: the terms of a form stay, and only those of a refusal leave the bank.
-        Err(fault) => {
-            count.terms = saved;
-            Err(fault)
-        }
-    }
+    let before = count.terms;
+    let low = cut(sheet, bank, count, height, *row);
+    let low = count.or_restored(before, low)?;
+    let view = View {
+        records: bank,
+        count: *count,
+    };
+    Ok(view.trim_row(sheet, height, low))
 }

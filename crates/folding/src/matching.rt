@@ -51,7 +51,7 @@ impl View<'_> {
         requires goals { Between self.now.count.terms goals.now (length goals.now) }
         ensures { Decides result (AllByRecursion (Entails (literals self.now.records.now given.now)) (literals self.now.records.now goals.now)) }
     {
-        // A loop, since each question writes the labels.
+        // A loop, since each question writes the labels: `all` would ask that its closure may be called whatever they hold.
         for goal in goals {
             if !self.is_entailed(given, *goal, labels) {
                 return false;
@@ -71,6 +71,7 @@ impl View<'_> {
     }
 }
 
+// The lent memory comes in parts, here and below: a struct of it would have to say of each part what stays.
 /// Adds the older row's conditions, renamed, to the bank, and answers whether the form's entail them.
 fn compare_conditions(
     bank: &mut [TermRecord],

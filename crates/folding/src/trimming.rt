@@ -52,6 +52,7 @@ impl View<'_> {
     {
         let names = self.names_in(&row.vector[..readings_of(sheet)]);
         let mut conditions = row.conditions;
+        // Counted, since the conditions that are kept stand in an array of fixed size.
         let mut used = 0;
         for condition in &row.conditions[..row.used as usize] {
             if used < MOST_CONDITIONS

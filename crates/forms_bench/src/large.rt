@@ -26,7 +26,7 @@ struct Stock {
 }
 
 /// One of the vector's terms with what it stands on, lowest first; the first `height` floors count.
-/// Of one size for all heights, since the row is made with no heap.
+// One array for all heights is plainer than a vector that may want memory.
 #[derive(Clone, Copy)]
 struct Tower {
     floors: [u16; 8],
@@ -77,8 +77,8 @@ impl Bank<'_> {
         let names = self.add_leaves(|x| Node::Name(x))?;
         let constants = self.add_leaves(|s| Node::Constant(s))?;
         let mut shared = [0; 4];
-        for (k, term) in shared.iter_mut().enumerate() {
-            *term = self.add(Node::Binary(2, names[k + 4], constants[k]))?;
+        for ((term, name), constant) in shared.iter_mut().zip(&names[4..]).zip(&constants) {
+            *term = self.add(Node::Binary(2, *name, *constant))?;
         }
         Ok(Stock {
             names,
@@ -107,8 +107,8 @@ impl Bank<'_> {
 
     fn add_towers(&mut self, stock: Stock) -> Result<[Tower; 6], TableFault> {
         let mut towers = [Tower::BLANK; 6];
-        for (v, tower) in towers.iter_mut().enumerate() {
-            *tower = self.add_tower(stock, v, HEIGHTS[v])?;
+        for ((v, tower), height) in towers.iter_mut().enumerate().zip(HEIGHTS) {
+            *tower = self.add_tower(stock, v, height)?;
         }
         Ok(towers)
     }
@@ -137,6 +137,7 @@ impl Bank<'_> {
         towers: &[Tower; 6],
     ) -> Result<[Condition; 22], TableFault> {
         let mut list = [Condition::BLANK; 22];
+        // By number, from which both sides and the sign are chosen.
         for (k, condition) in list.iter_mut().enumerate() {
             let left = towers[k % 6].floor(k / 6);
             let right = self.add_right(stock, towers, k)?;

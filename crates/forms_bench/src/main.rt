@@ -5,7 +5,7 @@
 
 mod large;
 
-use anyhow::anyhow;
+use anyhow::{anyhow, ensure};
 use banks::is_bank;
 use fault::TableFault;
 use folding::form;
@@ -59,14 +59,10 @@ fn print_times(
     times: u32,
 ) -> anyhow::Result<()> {
     let start = Instant::now(rt)?;
-    if repeat_forms(sheet, bank, count, row, times).is_err() {
-        return Err(anyhow!("the row is refused"));
-    }
+    repeat_forms(sheet, bank, count, row, times).map_err(|_| anyhow!("the row is refused"))?;
     let formed = each(start.elapsed(rt)?.as_nanos(), times);
     let start = Instant::now(rt)?;
-    if !repeat_tests(bank, count.terms as usize, times) {
-        return Err(anyhow!("the memory is no bank"));
-    }
+    ensure!(repeat_tests(bank, count.terms as usize, times), "the memory is no bank");
     let tested = each(start.elapsed(rt)?.as_nanos(), times);
     let ratio = formed / tested.max(1);
     println!(rt; "nanoseconds per form {formed} per bank test {tested} ratio {ratio}")?;
@@ -76,14 +72,10 @@ fn print_times(
 fn measure(rt: &HostRuntime) -> anyhow::Result<()> {
     let heap = rt.alloc();
     let mut sheet = smallest(heap)?;
-    if read(SHEET, heap, &mut sheet).is_err() {
-        return Err(anyhow!("the sheet has a fault"));
-    }
+    read(SHEET, heap, &mut sheet).map_err(|_| anyhow!("the sheet has a fault"))?;
     let mut bank = [TermRecord::BLANK; MOST_TERMS];
     let mut count = Count { terms: 0 };
-    let Ok(row) = large_row(&mut bank, &mut count) else {
-        return Err(anyhow!("the row has no room"));
-    };
+    let row = large_row(&mut bank, &mut count).map_err(|_| anyhow!("the row has no room"))?;
     let mut args = env::args(rt)?;
     let _ = args.next();
     if let Some(times) = args.next() {
@@ -97,9 +89,8 @@ fn measure(rt: &HostRuntime) -> anyhow::Result<()> {
         );
     }
     let before = count.terms;
-    let Ok(made) = form(&sheet, &mut bank, &mut count, &row, HEIGHT) else {
-        return Err(anyhow!("the row is refused"));
-    };
+    let made = form(&sheet, &mut bank, &mut count, &row, HEIGHT)
+        .map_err(|_| anyhow!("the row is refused"))?;
     let after = count.terms;
     let used = made.used;
     println!(rt; "terms before {before} after {after} conditions {used}")?;

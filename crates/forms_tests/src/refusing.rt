@@ -305,6 +305,7 @@ fn row_of(case: &Case) -> RowRecord {
     }
 }
 
+// Beside `takes_as_said`: each asks another call, in other memory.
 fn forms_as_said(sheet: &Sheet, bank: &mut [TermRecord], case: &Case) -> bool {
     let mut count = Count { terms: case.terms };
     let answer = form(sheet, bank, &mut count, &row_of(case), 4);

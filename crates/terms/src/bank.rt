@@ -1,5 +1,5 @@
 //! The bank of terms: interning, and the guard that lets working terms leave again.
-ghost use Rattle.std.specs.Prelude.{◌≡◌, ℕ, ◌<◌, ◌≤◌, length, Decides, MatchOption, slice_index};
+ghost use Rattle.std.specs.Prelude.{◌≡◌, ℕ, ◌<◌, ◌≤◌, length, Decides, MatchOption, MatchResult, slice_index};
 ghost use Rattle.terms.specs.Terms.{Term, name_set, occurs};
 ghost use Rattle.terms.specs.Bank.{Fit, node_at, Lacks, Ordered, Bank, term_of, term_at, relabel, record_of, Measured, Interned, Filed};
 
@@ -144,6 +144,24 @@ pub fn is_measured(bank: &[TermRecord], i: usize) -> bool
     ensures { Decides result (Measured bank.now i) }
 {
     i < bank.len() && bank[i].node.is_fit(i) && bank[i] == measured(bank, bank[i].node)
+}
+
+impl Count {
+    /// What was made; where it was refused, the count is again what it was before.
+    // Beside the guard, which restores the count on every way out.
+    pub fn or_restored<T>(
+        &mut self,
+        before: u16,
+        made: Result<T, TableFault>,
+    ) -> Result<T, TableFault>
+        ensures made { result ≡ made }
+        ensures count { MatchResult made (λ _. self.new.terms ≡ self.old.terms) (λ _. self.new.terms ≡ before) }
+    {
+        if made.is_err() {
+            self.terms = before;
+        }
+        made
+    }
 }
 
 /// Restores the count when it is let go, so that terms added meanwhile leave the bank on every way out.
