@@ -77,8 +77,7 @@ impl View<'_> {
     }
 }
 
-// A row comes beside its bank, here and below: the bank grows with each cut, so a struct of both would lend out what the
-// caller lent.
+// A row comes beside its bank, here and below: the bank is lent and the row is built, and both change with each cut.
 /// The row with the change made throughout. What a place became is remembered for this change alone.
 fn rewrite_row(
     sheet: &Sheet,

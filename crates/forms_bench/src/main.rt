@@ -62,7 +62,10 @@ fn print_times(
     repeat_forms(sheet, bank, count, row, times).map_err(|_| anyhow!("the row is refused"))?;
     let formed = each(start.elapsed(rt)?.as_nanos(), times);
     let start = Instant::now(rt)?;
-    ensure!(repeat_tests(bank, count.terms as usize, times), "the memory is no bank");
+    ensure!(
+        repeat_tests(bank, count.terms as usize, times),
+        "the memory is no bank"
+    );
     let tested = each(start.elapsed(rt)?.as_nanos(), times);
     let ratio = formed / tested.max(1);
     println!(rt; "nanoseconds per form {formed} per bank test {tested} ratio {ratio}")?;
@@ -89,8 +92,9 @@ fn measure(rt: &HostRuntime) -> anyhow::Result<()> {
         );
     }
     let before = count.terms;
-    let made = form(&sheet, &mut bank, &mut count, &row, HEIGHT)
-        .map_err(|_| anyhow!("the row is refused"))?;
+    let made = form(&sheet, &mut bank, &mut count, &row, HEIGHT).map_err(|_| anyhow!(
+        "the row is refused"
+    ))?;
     let after = count.terms;
     let used = made.used;
     println!(rt; "terms before {before} after {after} conditions {used}")?;
