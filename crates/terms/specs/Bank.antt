@@ -64,6 +64,18 @@ Absent rs n t = (k : ℕ) → k < n → term_at rs k ≢ t
 abbrev pub Lacks : List TermRecord → ℕ → Node → Type 0
 Lacks rs n node = (k : ℕ) → k < n → node_at rs k ≢ node
 
+-- the first place at which a node can stand: above its arguments
+abbrev pub floor : Node → ℕ
+floor (Name x) = 0
+floor (Constant f) = 0
+floor (Unary f a) = a + 1
+floor (Binary f a b) = max a b + 1
+floor (Ternary f a b c) = max a (max b c) + 1
+
+-- no node of the first n is this one, from the first place on at which it can stand
+abbrev pub Misses : List TermRecord → ℕ → Node → Type 0
+Misses rs n node = (k : ℕ) → floor node ≤ k → k < n → node_at rs k ≢ node
+
 -- a bank of n terms: subterms first, each term once, with its height and names
 pub record Bank (rs : List TermRecord) (n : ℕ) : Type 0 where
   pub ordered : Ordered rs n
@@ -117,11 +129,12 @@ abbrev pub Measured : List TermRecord → ℕ → Type 0
 Measured rs i =
     (i < length rs) × Fit i (node_at rs i) × ((get_or rs i no_record).height ≡ (record_of rs (node_at rs i)).height) × ((get_or rs i no_record).names ≡ (record_of rs (node_at rs i)).names)
 
--- interning in any memory, by nodes: found, or written behind the others, or refused with nothing changed
+-- interning in any memory, by nodes: found where it can stand, or written behind the others, or refused with nothing
+-- changed
 abbrev pub Filed : List TermRecord → ℕ → Node → List TermRecord → ℕ → Result ℕ TableFault → Type 0
 Filed rs n node rs' n' (Ok i) =
     (n ≤ length rs) × Fit n node
-    × (((i < n) × (node_at rs i ≡ node) × (rs' ≡ rs) × (n' ≡ n)) ⊎ ((i ≡ n) × (n < room rs) × Lacks rs n node × (rs' ≡ slice_set rs n (record_of rs node)) × (n' ≡ n + 1)))
+    × (((floor node ≤ i) × (i < n) × (node_at rs i ≡ node) × (rs' ≡ rs) × (n' ≡ n)) ⊎ ((i ≡ n) × (n < room rs) × Misses rs n node × (rs' ≡ slice_set rs n (record_of rs node)) × (n' ≡ n + 1)))
 Filed rs n node rs' n' (Err e) =
     (rs' ≡ rs) × (n' ≡ n)
-    × (((e ≡ TermsExhausted) × (n ≤ length rs) × Fit n node × (room rs ≤ n) × Lacks rs n node) ⊎ ((e ≡ BadMemory) × (n ≤ length rs → Fit n node → ⊥)))
+    × (((e ≡ TermsExhausted) × (n ≤ length rs) × Fit n node × (room rs ≤ n) × Misses rs n node) ⊎ ((e ≡ BadMemory) × (n ≤ length rs → Fit n node → ⊥)))

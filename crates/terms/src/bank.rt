@@ -1,7 +1,7 @@
 //! The bank of terms: interning, and the guard that lets working terms leave again.
 ghost use Rattle.std.specs.Prelude.{◌≡◌, ℕ, ◌<◌, ◌≤◌, length, Decides, MatchOption, MatchResult, slice_index};
 ghost use Rattle.terms.specs.Terms.{Term, name_set, occurs};
-ghost use Rattle.terms.specs.Bank.{Fit, node_at, Lacks, Ordered, Bank, term_of, term_at, relabel, record_of, Measured, Interned, Filed};
+ghost use Rattle.terms.specs.Bank.{Fit, node_at, floor, Misses, Ordered, Bank, term_of, term_at, relabel, record_of, Measured, Interned, Filed};
 
 use super::{Count, Node, TermRecord};
 use fault::TableFault;
@@ -17,6 +17,18 @@ pub fn same_node(a: Node, b: Node) -> bool
 }
 
 impl Node {
+    /// The first place at which the node can stand: above its arguments.
+    fn floor(self) -> usize
+        ensures { result ≡ floor self }
+    {
+        match self {
+            Node::Name(_) | Node::Constant(_) => 0,
+            Node::Unary(_, a) => a as usize + 1,
+            Node::Binary(_, a, b) => a.max(b) as usize + 1,
+            Node::Ternary(_, a, b, c) => a.max(b.max(c)) as usize + 1,
+        }
+    }
+
     /// Whether the node names places below `terms` and one of the 32 names.
     fn is_fit(self, terms: usize) -> bool
         ensures { Decides result (Fit terms self) }
@@ -33,11 +45,18 @@ impl Node {
     }
 }
 
+/// The place of a node, searched from the first at which it can stand.
 fn find(bank: &[TermRecord], terms: usize, node: Node) -> Option<usize>
-    requires { terms ≤ length bank.now }
-    ensures { MatchOption result (Lacks bank.now terms node) (λ i. (i < terms) × (node_at bank.now i ≡ node)) }
+    requires inside { terms ≤ length bank.now }
+    requires fit { Fit terms node }
+    ensures { MatchOption result (Misses bank.now terms node) (λ i. (floor node ≤ i) × (i < terms) × (node_at bank.now i ≡ node)) }
 {
-    bank[..terms].iter().position(|record| record.node == node)
+    let floor = node.floor();
+    let above = &bank[floor..terms];
+    above
+        .iter()
+        .position(|record| record.node == node)
+        .map(|i| floor + i)
 }
 
 fn measured(bank: &[TermRecord], node: Node) -> TermRecord
