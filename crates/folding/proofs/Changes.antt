@@ -1,9 +1,9 @@
 -- What a change makes of the bank's terms, node by node, and what it adds to the bank.
-use Rattle.std.proofs.Common.{◌≡◌, ℕ, ◌<◌, ◌≤◌, true, eqb, List, [], ◌∷◌, ◌++◌, map, length, get_or, set, IsErrAnd, Some, None, Ok, Err, Option, Result, sym, refl, ap, ◌∙◌, subst, ⊎_elim, arith}
+use Rattle.std.proofs.Common.{◌≡◌, ℕ, zero, suc, ◌<◌, ◌≤◌, true, eqb, List, [], ◌∷◌, ◌++◌, map, length, get_or, set, IsErrAnd, Some, None, Ok, Err, Option, Result, sym, refl, ap, ◌∙◌, subst, ⊎_elim, arith}
 use Rattle.std.specs.List.{ContainsAt as Has}
 use Rattle.std.proofs.ByRecursion.{All-append}
 use Rattle.std.proofs.lemmas.List.{get_or-set_same, get_or-set_other, set_past}
-use Rattle.std.proofs.lemmas.Bool.{cond-true, cond-false, cases_Bool, cases_lt, eqb-true, eqb-false, eq-eqb}
+use Rattle.std.proofs.lemmas.Bool.{cond-true, cond-false, cases_Bool, cases_lt, ltb-true, eqb-true, eqb-false, eq-eqb}
 use Rattle.fault.specs.declared.TableFault.{TableFault}
 use Rattle.terms.specs.declared.Node.{Node}
 use Rattle.terms.specs.declared.Node.TheVariants.{Name, Constant, Unary, Binary, Ternary}
@@ -13,13 +13,13 @@ use Rattle.terms.specs.Bank.{Bank, Extends, Interned, Filed, Fit, node_at, term_
 use Rattle.terms.proofs.Filing.{extends_none, extends_more}
 use Rattle.terms.proofs.Changing.{replaced_of}
 use Rattle.terms.proofs.Same.{same_self, same_true}
-use Rattle.terms.proofs.Standing.{term_at-ordered}
+use Rattle.terms.proofs.Standing.{term_at-ordered, term_of-same}
 use Rattle.banks.specs.Room.{Throughout, HasAll}
 use Rattle.banks.specs.Gains.{Gained, Overfull}
 use Rattle.banks.proofs.Gaining.{gained_none, gained_held, gained_more, gained_as, gained_interned, overfull_interned, overfull_later, overfull_as, all_left}
 use Rattle.folding.specs.declared.change.Change.{Change}
 use Rattle.folding.specs.declared.change.Change.TheVariants.{Replace, Rename}
-use Rattle.folding.specs.Rewriting.{changed, arg, Suits, renamed_name, stopped, Known, AddedAt, Refused, Adding}
+use Rattle.folding.specs.Rewriting.{changed, arg, Suits, renamed_name, stopped, is_spared, Known, AddedAt, Refused, Adding}
 
 pub added_own : (rs : List TermRecord) (n place : ℕ) (node : Node) → Bank rs n → place < n → node_at rs place ≡ node → AddedAt rs n (term_of (term_at rs) node) rs n place
 added_own rs n place node b lt is =
@@ -112,6 +112,19 @@ module _ (rs : List TermRecord) (n : ℕ) (b : Bank rs n) (place : ℕ) (lt : pl
   stopped_none (Replace old x) suits is =
       replaced-below old x suits.0 (λ e. none_some (Name x) (sym is ∙ cond-true (eqb place old) (Some (Name x)) None (eq-eqb place old e)))
   stopped_none (Rename to) suits is = ap (renamed (λ y. get_or to y 0)) (term_at-ordered rs n b.ordered place lt) ∙ renamed_on to (node_at rs place) is
+
+-- what is replaced stands in no term at a lower place
+replaced_lower : (rs : List TermRecord) (n : ℕ) → Bank rs n → (old x : ℕ) → old < n → (k place : ℕ) → place < k → place < old → arg rs (Replace old x) place ≡ term_at rs place
+replaced_lower rs n b old x inside zero place low lt = absurd (omega arith)
+replaced_lower rs n b old x inside (suc k) place low lt =
+    let here : place < n = omega arith in
+    replaced-below rs n b place here old x inside (λ e. absurd (omega (arith, e)))
+    ∙ (term_of-same (arg rs (Replace old x)) (term_at rs) place (node_at rs place) (b.ordered.fit place here) (λ a less. replaced_lower rs n b old x inside k a (omega arith) (omega arith))
+    ∙ sym (term_at-ordered rs n b.ordered place here))
+
+pub spared : (rs : List TermRecord) (n : ℕ) → Bank rs n → (change : Change) → Suits n change → (place : ℕ) → is_spared change place ≡ true → arg rs change place ≡ term_at rs place
+spared rs n b (Replace old x) suits place is = replaced_lower rs n b old x suits.0 (suc place) place (omega arith) (ltb-true place old is)
+spared rs n b (Rename to) suits place is = let z : ◌≡◌ {A = ℕ} 0 1 = cc in absurd (omega arith)
 
 map-push-arg : (f : ℕ → Term) (done : List ℕ) (a : ℕ) → map f done ++ f a ∷ [] ≡ map f (done ++ a ∷ [])
 map-push-arg f [] a = refl

@@ -1,5 +1,5 @@
 -- Terms of the bank changed throughout: one replaced by a name, or every name renamed. Assumes nothing.
-use Rattle.std.specs.Prelude.{◌≡◌, ℕ, ◌<◌, true, cond, List, [], ◌∷◌, map, length, get_or, Some, None, Ok, Err, Option, Result, ◌==◌, slice_index, slice_index_or}
+use Rattle.std.specs.Prelude.{◌≡◌, ℕ, ◌<◌, Bool, true, false, cond, nat_lt, List, [], ◌∷◌, map, length, get_or, Some, None, Ok, Err, Option, Result, ◌==◌, slice_index, slice_index_or}
 use Rattle.std.proofs.Props.{props}
 use Rattle.fault.specs.declared.TableFault.{TableFault}
 use Rattle.fault.specs.declared.TableFault.TheVariants.{TermsExhausted}
@@ -43,6 +43,11 @@ renamed_name to (Ternary f a b c) = None
 abbrev pub stopped : Change → ℕ → Node → Option Node
 stopped (Replace old x) place node = cond (place == old) (Some (Name x)) None
 stopped (Rename to) place node = renamed_name to node
+
+-- a place below the one whose term is replaced: that term does not stand in the term there
+abbrev pub is_spared : Change → ℕ → Bool
+is_spared (Replace old x) place = nat_lt place old
+is_spared (Rename to) place = false
 
 -- what is remembered of the change: place i became place p
 abbrev pub Known : List TermRecord → ℕ → Change → List (Option ℕ) → Type 0

@@ -2,7 +2,7 @@
 ghost use Rattle.std.specs.Prelude.{◌≡◌, ℕ, ◌<◌, ◌≤◌, length, MatchResult, slice_index};
 ghost use Rattle.terms.specs.Bank.{Bank, Fit, term_at, term_of};
 ghost use Rattle.folding.specs.Viewing.{Bank-prop};
-ghost use Rattle.folding.specs.Rewriting.{arg, renamed_name, stopped, Suits, Suits-prop, Known, Known-prop, Adding, PlacesChanged, ConditionsChanged, NoRoom, side_places};
+ghost use Rattle.folding.specs.Rewriting.{arg, renamed_name, stopped, is_spared, Suits, Suits-prop, Known, Known-prop, Adding, PlacesChanged, ConditionsChanged, NoRoom, side_places};
 ghost use Rattle.rows.specs.Records.{Between};
 
 use crate::change::Change;
@@ -25,6 +25,16 @@ fn stop(change: &Change, place: u16, node: Node) -> Option<Node>
     match change {
         Change::Replace(old, name) => (place == *old).then_some(Node::Name(*name)),
         Change::Rename(to) => renamed_name(to, node),
+    }
+}
+
+/// Whether the term at a place stays as it is, since what is replaced stands at a higher place and so not in it.
+fn is_spared(change: &Change, place: u16) -> bool
+    ensures { result ≡ is_spared change.now place }
+{
+    match change {
+        Change::Replace(old, _) => place < *old,
+        Change::Rename(_) => false,
     }
 }
 
@@ -80,6 +90,9 @@ impl Rewriting<'_> {
         ensures lent { (self.new.bank.ghost_name ≡ self.old.bank.ghost_name) × (self.new.count.ghost_name ≡ self.old.count.ghost_name) }
         ensures change { self.new.change.now ≡ self.old.change.now }
     {
+        if is_spared(self.change, place) {
+            return Ok(place);
+        }
         if let Some(became) = self.known[place as usize] {
             return Ok(became);
         }

@@ -1,11 +1,17 @@
-use Rattle.std.proofs.Common.{◌≡◌, ℕ, ◌<◌, ◌≤◌, List, [], ◌∷◌, refl, sym, ◌∙◌, arith}
+use Rattle.std.proofs.Common.{◌≡◌, ℕ, ◌<◌, ◌≤◌, List, [], ◌∷◌, refl, sym, ◌∙◌, arith, rules}
 use Rattle.terms.specs.declared.TermRecord.{TermRecord}
 use Rattle.terms.specs.Terms.{Term, unary, binary, ternary}
 use Rattle.terms.specs.Bank.{Extends, term_at}
 use Rattle.terms.proofs.Same.{same_true}
 use Rattle.banks.proofs.Gaining.{gained_held}
-use Rattle.folding.proofs.Changes.{stopped_some, site, underway_none, underway_more, underway_at, underway_is, underway_broken, underway_settled}
+use Rattle.folding.proofs.Changes.{spared, stopped_some, site, underway_none, underway_more, underway_at, underway_is, underway_broken, underway_settled}
 use Rattle.folding.proofs.rewriting.Rewriting.+rewrite.Goals as goal
+
+pub returns-then-is_spared-clause-adding : goal.returns-then-is_spared-clause-adding
+returns-then-is_spared-clause-adding t c =
+    let s = c.args.self.now in
+    let is = sym (spared s.bank.now s.count.now.terms s.is_bank s.change.now s.suits c.args.place (search rules)) in
+    record { gained = gained_held s.bank.now s.count.now.terms _ s.is_bank (c.args.place, c.requires.inside, is); inside = c.requires.inside; is = is }
 
 pub returns-in-Some-clause-adding : goal.returns-in-Some-clause-adding
 returns-in-Some-clause-adding t c =
