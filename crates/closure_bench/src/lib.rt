@@ -25,11 +25,10 @@ fn load<'a>(
     conditions: &'a mut [Condition],
 ) -> Result<(Count, &'a [Condition]), TableFault> {
     let mut count = Count { terms: 0 };
+    // Counted by hand, since only the entries that are conditions take a slot.
     let mut used = 0;
-    for entry in entries.chunks_exact(ENTRY) {
-        let [kind, symbol, a, b, c] = entry else {
-            return Err(TableFault::BadMemory);
-        };
+    let (entries, _) = entries.as_chunks::<ENTRY>();
+    for [kind, symbol, a, b, c] in entries {
         if *kind < 5 {
             let made = node(*kind, (*symbol % 256) as u8, *a, *b, *c);
             intern(bank, &mut count, made)?;
