@@ -8,6 +8,7 @@ use terms::{Condition, Count, MOST_TERMS, Node, Sign, TermRecord, intern};
 /// One entry is five numbers: a kind, a symbol or name, and three places. They are numbers since they come from C.
 const ENTRY: usize = 5;
 
+/// The node of an entry of kind 0 to 4.
 fn node(kind: u16, symbol: u8, a: u16, b: u16, c: u16) -> Node {
     match kind {
         0 => Node::Name(symbol),
