@@ -85,20 +85,18 @@ impl Reader {
         let Some(rest) = after(rest, b'(') else {
             return self.finish(rest, Node::Constant(f), f, 0);
         };
-        if room == 0 {
-            return Err(Unread::TooManyTerms);
-        }
-        let (a, rest) = self.term(rest, room - 1)?;
+        let room = room.checked_sub(1).ok_or(Unread::TooManyTerms)?;
+        let (a, rest) = self.term(rest, room)?;
         if let Some(rest) = after(rest, b')') {
             return self.finish(rest, Node::Unary(f, a), f, 1);
         }
         let rest = after(rest, b',').ok_or(Unread::NoArgumentEnd)?;
-        let (b, rest) = self.term(rest, room - 1)?;
+        let (b, rest) = self.term(rest, room)?;
         if let Some(rest) = after(rest, b')') {
             return self.finish(rest, Node::Binary(f, a, b), f, 2);
         }
         let rest = after(rest, b',').ok_or(Unread::NoArgumentEnd)?;
-        let (c, rest) = self.term(rest, room - 1)?;
+        let (c, rest) = self.term(rest, room)?;
         let rest = after(rest, b')').ok_or(Unread::NoArgumentEnd)?;
         self.finish(rest, Node::Ternary(f, a, b, c), f, 3)
     }
