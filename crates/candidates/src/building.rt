@@ -12,7 +12,6 @@ use crate::answers::answers_of;
 use crate::asking::append;
 use crate::conditions::Conditions;
 use crate::instantiating::{Given, MOST_SHEET_TERMS, Memory};
-use crate::resolving::resolve;
 use fault::TableFault;
 use rows::{RowRecord, bits_of};
 use sheet::{Equation, Reading, Sheet};
@@ -89,7 +88,7 @@ pub(crate) fn build<'a>(
     let own = &row.conditions[..row.used as usize];
     let conditions = conditions_of(sheet, given, &mut memory, own, answers)?;
     let bits = &row.bits[..bits_of(sheet)];
-    let resolved = resolve(sheet, bits, answers);
+    let resolved = sheet.resolve(bits, answers);
     let readings: &[Reading] = &sheet.parts.readings;
     let vector = given.next_vector(&mut memory, readings, &resolved.chosen)?;
     let bits = sheet.next_bits(bits, &resolved.truths);
