@@ -18,7 +18,8 @@ use sheet::{Equation, Reading, Sheet};
 use terms::{Condition, Count, TermRecord};
 
 pub(crate) fn questions_of(sheet: &Sheet) -> usize
-    ensures { result ≡ length (sheet_of sheet.now).questions }
+    ensures number { result ≡ length (sheet_of sheet.now).questions }
+    ensures few { result ≤ 6 }
 {
     sheet.parts.questions.len()
 }

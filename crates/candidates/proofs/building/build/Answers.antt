@@ -13,11 +13,6 @@ use Rattle.candidates.proofs.Listing.{added_break, left}
 use Rattle.candidates.proofs.Completing.{conditions_joined, conditions_refused, vector_placed, vector_refused, row_built, bits_built}
 use Rattle.candidates.proofs.building.build.Goals as goal
 
-pub slice_bounds-answers-end : goal.slice_bounds-answers-end
-slice_bounds-answers-end c =
-    let few : c.questions_of-asked.result ≤ 6 = omega (arith, c.questions_of-asked.ensures, few_questions (sheet_of c.args.sheet.now) c.args.sheet.now.lawful) in
-    search rules
-
 pub returns-in_err-conditions : goal.returns-in_err-conditions
 returns-in_err-conditions c =
     let s = sheet_of c.args.sheet.now in
@@ -28,7 +23,7 @@ returns-in_err-conditions c =
     let given = c.over-given.result in
     let mine = take row.used row.conditions in
     let answers = take c.questions_of-asked.result c.answers_of.result in
-    let answers_are : answers ≡ branch_answers (length s.questions) c.args.branch = (c.answers_of.ensures c.questions_of-asked.result (omega (arith, few, c.questions_of-asked.ensures)) ∙ ap (λ k. branch_answers k c.args.branch) c.questions_of-asked.ensures) in
+    let answers_are : answers ≡ branch_answers (length s.questions) c.args.branch = (c.answers_of.ensures c.questions_of-asked.result c.questions_of-asked.ensures.few ∙ ap (λ k. branch_answers k c.args.branch) c.questions_of-asked.ensures.number) in
     let next = candidate_with s (row_in s rs row) c.args.names.now (branch_answers (length s.questions) c.args.branch) in
     let x = conditions_joined s rs n row c.requires.sound few c.args.names.now c.requires.names c.args.branch given.terms.now given.vector.now answers c.over-given.ensures.terms c.over-given.ensures.vector answers_are given.inputs.now c.over-given.ensures.inputs c.conditions_of.new.memory.bank.now c.conditions_of.new.memory.count.now.terms c.conditions_of.new.memory.known mine refl (Err c.in_err-conditions.field-0.0) c.in_err-conditions.ensures.conditions in
     left (λ rs' n'. Added rs n (terms_in next) rs' n' (StandsFor s rs' n' 22 next) c.from_residual.result) c.conditions_of.new.memory.bank.now _ c.conditions_of.new.memory.count.now.terms _ (search rules) (search rules)
@@ -45,7 +40,7 @@ returns-in_err-vector c =
     let given = c.over-given.result in
     let mine = take row.used row.conditions in
     let answers = take c.questions_of-asked.result c.answers_of.result in
-    let answers_are : answers ≡ branch_answers (length s.questions) c.args.branch = (c.answers_of.ensures c.questions_of-asked.result (omega (arith, few, c.questions_of-asked.ensures)) ∙ ap (λ k. branch_answers k c.args.branch) c.questions_of-asked.ensures) in
+    let answers_are : answers ≡ branch_answers (length s.questions) c.args.branch = (c.answers_of.ensures c.questions_of-asked.result c.questions_of-asked.ensures.few ∙ ap (λ k. branch_answers k c.args.branch) c.questions_of-asked.ensures.number) in
     let next = candidate_with s (row_in s rs row) c.args.names.now (branch_answers (length s.questions) c.args.branch) in
     let x = conditions_joined s rs n row c.requires.sound few c.args.names.now c.requires.names c.args.branch given.terms.now given.vector.now answers c.over-given.ensures.terms c.over-given.ensures.vector answers_are given.inputs.now c.over-given.ensures.inputs c.conditions_of.new.memory.bank.now c.conditions_of.new.memory.count.now.terms c.conditions_of.new.memory.known mine refl (Ok c.in_ok-conditions.conditions) c.in_ok-conditions.ensures.conditions in
     let bits_are = ap (λ k. take k row.bits) c.bits_of.ensures in
@@ -65,7 +60,7 @@ returns c =
     let given = c.over-given.result in
     let mine = take row.used row.conditions in
     let answers = take c.questions_of-asked.result c.answers_of.result in
-    let answers_are : answers ≡ branch_answers (length s.questions) c.args.branch = (c.answers_of.ensures c.questions_of-asked.result (omega (arith, few, c.questions_of-asked.ensures)) ∙ ap (λ k. branch_answers k c.args.branch) c.questions_of-asked.ensures) in
+    let answers_are : answers ≡ branch_answers (length s.questions) c.args.branch = (c.answers_of.ensures c.questions_of-asked.result c.questions_of-asked.ensures.few ∙ ap (λ k. branch_answers k c.args.branch) c.questions_of-asked.ensures.number) in
     let next = candidate_with s (row_in s rs row) c.args.names.now (branch_answers (length s.questions) c.args.branch) in
     let x = conditions_joined s rs n row c.requires.sound few c.args.names.now c.requires.names c.args.branch given.terms.now given.vector.now answers c.over-given.ensures.terms c.over-given.ensures.vector answers_are given.inputs.now c.over-given.ensures.inputs c.conditions_of.new.memory.bank.now c.conditions_of.new.memory.count.now.terms c.conditions_of.new.memory.known mine refl (Ok c.in_ok-conditions.conditions) c.in_ok-conditions.ensures.conditions in
     let bits_are = ap (λ k. take k row.bits) c.bits_of.ensures in
