@@ -66,6 +66,8 @@ pub(crate) fn build_conditions<'a>(
 }
 
 /// The row's candidate on the branch.
+// Begins as `build_conditions` and does not call it: the vector is built in the memory that the conditions leave, where
+// the terms that they asked for are known.
 pub(crate) fn build<'a>(
     sheet: &'a Sheet,
     bank: &mut [TermRecord],
