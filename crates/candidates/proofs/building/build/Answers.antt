@@ -1,4 +1,4 @@
-use Rattle.std.proofs.Common.{◌≡◌, ℕ, ◌≤◌, Bool, false, List, [], length, get_or, take, Ok, Err, refl, ap, ◌∙◌, ap₂, arith, rules}
+use Rattle.std.proofs.Common.{◌≡◌, ℕ, Bool, false, List, [], length, get_or, take, Ok, Err, refl, ap, ◌∙◌, ap₂, arith, rules}
 use Rattle.sheet.specs.Truth.{truths, chosen}
 use Rattle.sheet.specs.View.{sheet_of}
 use Rattle.forms.specs.Candidate.{branch_answers, candidate_with}

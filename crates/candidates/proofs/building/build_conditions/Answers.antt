@@ -1,4 +1,4 @@
-use Rattle.std.proofs.Common.{◌≡◌, ◌≤◌, length, take, refl, ap, ◌∙◌, arith, rules}
+use Rattle.std.proofs.Common.{◌≡◌, length, take, refl, ap, ◌∙◌, rules}
 use Rattle.forms.specs.Candidate.{branch_answers, candidate_with}
 use Rattle.forms.specs.Counted.{sides_of}
 use Rattle.rows.specs.Records.{row_in}

@@ -9,7 +9,7 @@ use Rattle.candidates.proofs.Listing.{added_break, placed_more, placed_break}
 use Rattle.candidates.proofs.starting.start_vector.Goals as goal
 
 pub loop-k-init : goal.loop-k-init
-loop-k-init c = (refl, λ started named. (walked_start [] [] [] [] c.args.bank.now c.args.count.now.terms [] (over_nothing c.args.bank.now c.args.count.now.terms) started, λ k lt. absurd (omega arith)))
+loop-k-init c = (refl, λ started named. (walked_start (over_nothing c.args.bank.now c.args.count.now.terms) started, λ k lt. absurd (omega arith)))
 
 pub returns-in_err-out : goal.returns-in_err-out
 returns-in_err-out c started named =
