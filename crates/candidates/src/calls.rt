@@ -67,8 +67,8 @@ pub fn branch_conditions(
     or_restored(count, before, made)
 }
 
-// Not one function with `branch_conditions`: what is built, and what it asks, is another thing in each.
 /// The candidate of a row on a branch.
+// Not one function with `branch_conditions`: what is built, and the terms for which there must be room, differ.
 pub fn candidate(
     sheet: &Sheet,
     bank: &mut [TermRecord],
