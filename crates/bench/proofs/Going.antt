@@ -6,8 +6,6 @@ use Rattle.sheet.specs.System.{System}
 use Rattle.sheet.specs.Truth.{Meaning}
 use Rattle.bench.specs.declared.configuration.Configuration.{Configuration as Place}
 use Rattle.bench.specs.Outcome.{Holds, Ran}
--- crates above the bench cite this from here
-pub use Rattle.sheet.proofs.Fewness.{few_readings}
 
 -- configuration i is at the place, and none before it breaks the invariant
 pub record Reached (m : Meaning) (s : System) (starts inputs : List ℕ) (i : ℕ) (place : Place) : Type 0 where
