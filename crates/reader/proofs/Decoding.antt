@@ -139,11 +139,11 @@ decoded_body s (Record.NextReading r k) h = refl
 decoded_body s (Record.Invariant f) h = refl
 decoded_body s (Record.Bound h') h = refl
 
--- the kind that a letter begins, to tell letters apart
-abbrev kind_at : ℕ → Option Kind
-kind_at c = cond (eqb c 66) (Some Kind.Bit) (cond (eqb c 70) (Some Kind.Symbol) (cond (eqb c 82) (Some Kind.Reading) (cond (eqb c 73) (Some Kind.Input) (cond (eqb c 84) (Some Kind.Term) (cond (eqb c 81) (Some Kind.Question) (cond (eqb c 67) (Some Kind.Claim) (cond (eqb c 76) (Some Kind.Formula) (cond (eqb c 75) (Some Kind.Choice) (cond (eqb c 78) (Some Kind.NextBit) (cond (eqb c 77) (Some Kind.NextReading) (cond (eqb c 86) (Some Kind.Invariant) (cond (eqb c 72) (Some Kind.Bound) (Some Kind.End)))))))))))))
+-- the kind that a letter begins
+abbrev pub kind_at : ℕ → Option Kind
+kind_at c = cond (eqb c 66) (Some Kind.Bit) (cond (eqb c 70) (Some Kind.Symbol) (cond (eqb c 82) (Some Kind.Reading) (cond (eqb c 73) (Some Kind.Input) (cond (eqb c 84) (Some Kind.Term) (cond (eqb c 81) (Some Kind.Question) (cond (eqb c 67) (Some Kind.Claim) (cond (eqb c 76) (Some Kind.Formula) (cond (eqb c 75) (Some Kind.Choice) (cond (eqb c 78) (Some Kind.NextBit) (cond (eqb c 77) (Some Kind.NextReading) (cond (eqb c 86) (Some Kind.Invariant) (cond (eqb c 72) (Some Kind.Bound) (cond (eqb c 69) (Some Kind.End) None)))))))))))))
 
-kind_at_letter : (k : Kind) → kind_at (letter k) ≡ Some k
+pub kind_at_letter : (k : Kind) → kind_at (letter k) ≡ Some k
 kind_at_letter Kind.Bit = refl
 kind_at_letter Kind.Symbol = refl
 kind_at_letter Kind.Reading = refl
