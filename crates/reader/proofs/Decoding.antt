@@ -64,46 +64,20 @@ mapped_some f None y e = let z : ◌≡◌ {A = ℕ} 0 1 = cc in absurd (omega a
 mapped_some f (Some x) y e = (x, refl, (let q : y ≡ f x = cc in q))
 
 pub decode_writes : (s : System) (k : Kind) (b : List ℕ) (x : Record) → length b ≡ body_length k → decoded s k b ≡ Some x → written x ≡ letter k ∷ b
-decode_writes s Kind.Bit b x n e =
-    let m = mapped_some (λ w. Record.Bit w) (bit_of (get_or b 0 0)) x e in
-    ap written m.2 ∙ ap (λ l. 66 ∷ l) (ap (λ w. w ∷ []) (bit_writes (get_or b 0 0) m.0 m.1) ∙ sym (exact1 b n))
-decode_writes s Kind.Symbol b x n e =
-    let q : Record.Symbol (get_or b 0 0) ≡ x = cc in
-    ap written (sym q) ∙ ap (λ l. 70 ∷ l) (sym (exact1 b n))
-decode_writes s Kind.Reading b x n e =
-    let m = mapped_some (λ w. Record.Reading w) (start_of (get_or b 0 0) (get_or b 1 0)) x e in
-    ap written m.2 ∙ ap (λ l. 82 ∷ l) (start_writes (get_or b 0 0) (get_or b 1 0) m.0 m.1 ∙ sym (exact2 b n))
-decode_writes s Kind.Input b x n e =
-    let q : Record.Input ≡ x = cc in
-    ap written (sym q) ∙ ap (λ l. 73 ∷ l) (sym (exact0 b n))
-decode_writes s Kind.Term b x n e =
-    let m = mapped_some (λ t. Record.Term t) (term_of (get_or b 0 0) (get_or b 1 0) (get_or b 2 0) (get_or b 3 0) (get_or b 4 0) (get_or s.symbols (get_or b 1 0) 0)) x e in
-    ap written m.2 ∙ ap (λ l. 84 ∷ l) (term_writes (get_or b 0 0) (get_or b 1 0) (get_or b 2 0) (get_or b 3 0) (get_or b 4 0) (get_or s.symbols (get_or b 1 0) 0) m.0 m.1 ∙ sym (exact5 b n))
-decode_writes s Kind.Question b x n e =
-    let q : Record.Question (record { left = get_or b 0 0; right = get_or b 1 0 }) ≡ x = cc in
-    ap written (sym q) ∙ ap (λ l. 81 ∷ l) (sym (exact2 b n))
-decode_writes s Kind.Claim b x n e =
-    let q : Record.Claim (record { left = get_or b 0 0; right = get_or b 1 0 }) ≡ x = cc in
-    ap written (sym q) ∙ ap (λ l. 67 ∷ l) (sym (exact2 b n))
-decode_writes s Kind.Formula b x n e =
-    let m = mapped_some (λ f. Record.Formula f) (formula_of (get_or b 0 0) (get_or b 1 0) (get_or b 2 0)) x e in
-    ap written m.2 ∙ ap (λ l. 76 ∷ l) (formula_writes (get_or b 0 0) (get_or b 1 0) (get_or b 2 0) m.0 m.1 ∙ sym (exact3 b n))
-decode_writes s Kind.Choice b x n e =
-    let m = mapped_some (λ k. Record.Choice k) (choice_of (get_or b 0 0) (get_or b 1 0) (get_or b 2 0) (get_or b 3 0)) x e in
-    ap written m.2 ∙ ap (λ l. 75 ∷ l) (choice_writes (get_or b 0 0) (get_or b 1 0) (get_or b 2 0) (get_or b 3 0) m.0 m.1 ∙ sym (exact4 b n))
-decode_writes s Kind.NextBit b x n e =
-    let q : Record.NextBit (get_or b 0 0) (get_or b 1 0) ≡ x = cc in
-    ap written (sym q) ∙ ap (λ l. 78 ∷ l) (sym (exact2 b n))
-decode_writes s Kind.NextReading b x n e =
-    let q : Record.NextReading (get_or b 0 0) (get_or b 1 0) ≡ x = cc in
-    ap written (sym q) ∙ ap (λ l. 77 ∷ l) (sym (exact2 b n))
-decode_writes s Kind.Invariant b x n e =
-    let q : Record.Invariant (get_or b 0 0) ≡ x = cc in
-    ap written (sym q) ∙ ap (λ l. 86 ∷ l) (sym (exact1 b n))
-decode_writes s Kind.Bound b x n e =
-    let q : Record.Bound (get_or b 0 0) ≡ x = cc in
-    ap written (sym q) ∙ ap (λ l. 72 ∷ l) (sym (exact1 b n))
-decode_writes s Kind.End b x n e = let z : ◌≡◌ {A = ℕ} 0 1 = cc in absurd (omega arith)
+decode_writes s Kind.Bit b x n e = grind (arith, nat_tests, exact1 b n)
+decode_writes s Kind.Symbol b x n e = grind (arith, exact1 b n)
+decode_writes s Kind.Reading b x n e = grind (arith, nat_tests, exact2 b n)
+decode_writes s Kind.Input b x n e = grind (arith, exact0 b n)
+decode_writes s Kind.Term b x n e = grind (arith, nat_tests, exact5 b n)
+decode_writes s Kind.Question b x n e = grind (arith, exact2 b n)
+decode_writes s Kind.Claim b x n e = grind (arith, exact2 b n)
+decode_writes s Kind.Formula b x n e = grind (arith, nat_tests, exact3 b n)
+decode_writes s Kind.Choice b x n e = grind (arith, nat_tests, exact4 b n)
+decode_writes s Kind.NextBit b x n e = grind (arith, exact2 b n)
+decode_writes s Kind.NextReading b x n e = grind (arith, exact2 b n)
+decode_writes s Kind.Invariant b x n e = grind (arith, exact1 b n)
+decode_writes s Kind.Bound b x n e = grind (arith, exact1 b n)
+decode_writes s Kind.End b x n e = grind arith
 
 args_decoded : (k : ℕ) (x : Args) (f : ℕ) → k ≡ arg_count x → option_map (λ t. Record.Term t) (term_of 2 f (get_or (args_body x) 0 0) (get_or (args_body x) 1 0) (get_or (args_body x) 2 0) k) ≡ Some (Record.Term (Term.Apply f x))
 args_decoded k Zero f e = rw e
