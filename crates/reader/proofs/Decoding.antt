@@ -15,21 +15,6 @@ use Rattle.sheet.specs.System.{System}
 use Rattle.std.specs.Option.{option_map}
 use Rattle.sheet.specs.Format.{letter, body_length, kind_of, body_of, written, start_body, args_body, term_body, formula_body, choice_body}
 
-start_writes : (w n : ℕ) (s : Start) → start_of w n ≡ Some s → start_body s ≡ w ∷ n ∷ []
-start_writes w n s e = grind (arith, nat_tests)
-
-args_writes : (k a b c : ℕ) (x : Args) → args_of k a b c ≡ Some x → args_body x ≡ a ∷ b ∷ c ∷ []
-args_writes k a b c x e = grind (arith, nat_tests)
-
-term_writes : (w n a b c k : ℕ) (t : Term) → term_of w n a b c k ≡ Some t → term_body t ≡ w ∷ n ∷ a ∷ b ∷ c ∷ []
-term_writes w n a b c k t e = grind (arith, nat_tests)
-
-formula_writes : (w a b : ℕ) (f : Formula) → formula_of w a b ≡ Some f → formula_body f ≡ w ∷ a ∷ b ∷ []
-formula_writes w a b f e = grind (arith, nat_tests)
-
-choice_writes : (w a b c : ℕ) (k : Choice) → choice_of w a b c ≡ Some k → choice_body k ≡ w ∷ a ∷ b ∷ c ∷ []
-choice_writes w a b c k e = grind (arith, nat_tests)
-
 -- a list of a known length, by its elements
 exact0 : (b : List ℕ) → length b ≡ 0 → b ≡ []
 exact0 [] e = refl
@@ -55,14 +40,6 @@ exact5 : (b : List ℕ) → length b ≡ 5 → b ≡ get_or b 0 0 ∷ get_or b 1
 exact5 [] e = absurd (omega arith)
 exact5 (x ∷ xs) e = ap (λ l. x ∷ l) (exact4 xs (omega arith))
 
-bit_writes : (w : ℕ) (v : Bool) → bit_of w ≡ Some v → cond v 1 0 ≡ w
-bit_writes w v e = grind (arith, nat_tests)
-
--- the value in a mapped option
-mapped_some : {A B : Type 0} (f : A → B) (o : Option A) (y : B) → option_map f o ≡ Some y → (x : A) × (o ≡ Some x) × (y ≡ f x)
-mapped_some f None y e = let z : ◌≡◌ {A = ℕ} 0 1 = cc in absurd (omega arith)
-mapped_some f (Some x) y e = (x, refl, (let q : y ≡ f x = cc in q))
-
 pub decode_writes : (s : System) (k : Kind) (b : List ℕ) (x : Record) → length b ≡ body_length k → decoded s k b ≡ Some x → written x ≡ letter k ∷ b
 decode_writes s Kind.Bit b x n e = grind (arith, nat_tests, exact1 b n)
 decode_writes s Kind.Symbol b x n e = grind (arith, exact1 b n)
@@ -79,35 +56,18 @@ decode_writes s Kind.Invariant b x n e = grind (arith, exact1 b n)
 decode_writes s Kind.Bound b x n e = grind (arith, exact1 b n)
 decode_writes s Kind.End b x n e = grind arith
 
-args_decoded : (k : ℕ) (x : Args) (f : ℕ) → k ≡ arg_count x → option_map (λ t. Record.Term t) (term_of 2 f (get_or (args_body x) 0 0) (get_or (args_body x) 1 0) (get_or (args_body x) 2 0) k) ≡ Some (Record.Term (Term.Apply f x))
-args_decoded k Zero f e = rw e
-args_decoded k (One a) f e = rw e
-args_decoded k (Two a b) f e = rw e
-args_decoded k (Three a b c) f e = rw e
-
 pub decoded_body : (s : System) (x : Record) → keeps s x ≡ true → decoded s (kind_of x) (body_of x) ≡ Some x
-decoded_body s (Record.Bit true) h = refl
-decoded_body s (Record.Bit false) h = refl
+decoded_body s (Record.Bit b) h = grind arith
 decoded_body s (Record.Symbol a) h = refl
-decoded_body s (Record.Reading (Start.Name v)) h = refl
-decoded_body s (Record.Reading (Start.Constant c)) h = refl
+decoded_body s (Record.Reading w) h = grind arith
 decoded_body s Record.Input h = refl
 decoded_body s (Record.Term (Term.Reading r)) h = refl
 decoded_body s (Record.Term (Term.Input i)) h = refl
-decoded_body s (Record.Term (Term.Apply f x)) h =
-    let k : get_or s.symbols f 0 ≡ arg_count x = grind (arith, nat_tests) in
-    args_decoded (get_or s.symbols f 0) x f k
+decoded_body s (Record.Term (Term.Apply f x)) h = grind (arith, nat_tests)
 decoded_body s (Record.Question e) h = refl
 decoded_body s (Record.Claim e) h = refl
-decoded_body s (Record.Formula Formula.True) h = refl
-decoded_body s (Record.Formula (Formula.Bit b)) h = refl
-decoded_body s (Record.Formula (Formula.Question q)) h = refl
-decoded_body s (Record.Formula (Formula.Claim c)) h = refl
-decoded_body s (Record.Formula (Formula.Not a)) h = refl
-decoded_body s (Record.Formula (Formula.And a b)) h = refl
-decoded_body s (Record.Formula (Formula.Or a b)) h = refl
-decoded_body s (Record.Choice (Choice.Term t)) h = refl
-decoded_body s (Record.Choice (Choice.If f a b)) h = refl
+decoded_body s (Record.Formula f) h = grind arith
+decoded_body s (Record.Choice k) h = grind arith
 decoded_body s (Record.NextBit b f) h = refl
 decoded_body s (Record.NextReading r k) h = refl
 decoded_body s (Record.Invariant f) h = refl
@@ -118,20 +78,7 @@ abbrev pub kind_at : ℕ → Option Kind
 kind_at c = cond (eqb c 66) (Some Kind.Bit) (cond (eqb c 70) (Some Kind.Symbol) (cond (eqb c 82) (Some Kind.Reading) (cond (eqb c 73) (Some Kind.Input) (cond (eqb c 84) (Some Kind.Term) (cond (eqb c 81) (Some Kind.Question) (cond (eqb c 67) (Some Kind.Claim) (cond (eqb c 76) (Some Kind.Formula) (cond (eqb c 75) (Some Kind.Choice) (cond (eqb c 78) (Some Kind.NextBit) (cond (eqb c 77) (Some Kind.NextReading) (cond (eqb c 86) (Some Kind.Invariant) (cond (eqb c 72) (Some Kind.Bound) (cond (eqb c 69) (Some Kind.End) None)))))))))))))
 
 pub kind_at_letter : (k : Kind) → kind_at (letter k) ≡ Some k
-kind_at_letter Kind.Bit = refl
-kind_at_letter Kind.Symbol = refl
-kind_at_letter Kind.Reading = refl
-kind_at_letter Kind.Input = refl
-kind_at_letter Kind.Term = refl
-kind_at_letter Kind.Question = refl
-kind_at_letter Kind.Claim = refl
-kind_at_letter Kind.Formula = refl
-kind_at_letter Kind.Choice = refl
-kind_at_letter Kind.NextBit = refl
-kind_at_letter Kind.NextReading = refl
-kind_at_letter Kind.Invariant = refl
-kind_at_letter Kind.Bound = refl
-kind_at_letter Kind.End = refl
+kind_at_letter k = grind (arith, nat_tests)
 
 pub letter-same : (j k : Kind) → letter j ≡ letter k → j ≡ k
 letter-same j k e =
@@ -139,32 +86,7 @@ letter-same j k e =
     cc
 
 pub length-body_of : (x : Record) → length (body_of x) ≡ body_length (kind_of x)
-length-body_of (Record.Bit b) = refl
-length-body_of (Record.Symbol a) = refl
-length-body_of (Record.Reading (Start.Name v)) = refl
-length-body_of (Record.Reading (Start.Constant c)) = refl
-length-body_of Record.Input = refl
-length-body_of (Record.Term (Term.Reading r)) = refl
-length-body_of (Record.Term (Term.Input i)) = refl
-length-body_of (Record.Term (Term.Apply f Zero)) = refl
-length-body_of (Record.Term (Term.Apply f (One a))) = refl
-length-body_of (Record.Term (Term.Apply f (Two a b))) = refl
-length-body_of (Record.Term (Term.Apply f (Three a b c))) = refl
-length-body_of (Record.Question e) = refl
-length-body_of (Record.Claim e) = refl
-length-body_of (Record.Formula Formula.True) = refl
-length-body_of (Record.Formula (Formula.Bit b)) = refl
-length-body_of (Record.Formula (Formula.Question q)) = refl
-length-body_of (Record.Formula (Formula.Claim c)) = refl
-length-body_of (Record.Formula (Formula.Not a)) = refl
-length-body_of (Record.Formula (Formula.And a b)) = refl
-length-body_of (Record.Formula (Formula.Or a b)) = refl
-length-body_of (Record.Choice (Choice.Term t)) = refl
-length-body_of (Record.Choice (Choice.If f a b)) = refl
-length-body_of (Record.NextBit b f) = refl
-length-body_of (Record.NextReading r k) = refl
-length-body_of (Record.Invariant f) = refl
-length-body_of (Record.Bound h) = refl
+length-body_of x = grind arith
 
 pub decode_finds : (s : System) (k : Kind) (b : List ℕ) (x : Record) → written x ≡ letter k ∷ b → keeps s x ≡ true → decoded s k b ≡ Some x
 decode_finds s k b x e h =
