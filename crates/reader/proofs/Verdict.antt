@@ -46,27 +46,11 @@ unknown c none =
     ] refl
 
 not_69 : (k : Kind) → (k ≡ Kind.End → ⊥) → eqb (letter k) 69 ≡ false
-not_69 k n =
-    elim (eqb (letter k) 69) as (λ b. eqb (letter k) 69 ≡ b → b ≡ false) [
-      | true ↦ λ e. absurd (n (letter-same k Kind.End (grind (arith, nat_tests))))
-      | false ↦ λ e. refl
-    ] refl
+not_69 k n = grind (arith, nat_tests, n)
 
 -- no record is the end record
 not_end : (x : Record) → eqb (letter (kind_of x)) 69 ≡ false
-not_end (Record.Bit b) = refl
-not_end (Record.Symbol a) = refl
-not_end (Record.Reading w) = refl
-not_end Record.Input = refl
-not_end (Record.Term t) = refl
-not_end (Record.Question q) = refl
-not_end (Record.Claim q) = refl
-not_end (Record.Formula f) = refl
-not_end (Record.Choice k) = refl
-not_end (Record.NextBit b f) = refl
-not_end (Record.NextReading i k) = refl
-not_end (Record.Invariant f) = refl
-not_end (Record.Bound b) = refl
+not_end x = grind (arith, nat_tests)
 
 module _ (s : System) where
   lettered : (k : Kind) (more : List ℕ) → verdict s (letter k ∷ more) ≡ of_kind s more (Some k)
