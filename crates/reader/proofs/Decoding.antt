@@ -90,7 +90,6 @@ length-body_of x = grind arith
 
 pub decode_finds : (s : System) (k : Kind) (b : List ℕ) (x : Record) → written x ≡ letter k ∷ b → keeps s x ≡ true → decoded s k b ≡ Some x
 decode_finds s k b x e h =
-    let l : letter (kind_of x) ≡ letter k = cc in
-    let q : body_of x ≡ b = cc in
-    let j : kind_of x ≡ k = letter-same (kind_of x) k l in
-    sym (ap₂ (λ (i : Kind) (c : List ℕ). decoded s i c) j q) ∙ decoded_body s x h
+    let j : kind_of x ≡ k = letter-same (kind_of x) k cc in
+    let found = decoded_body s x h in
+    grind arith

@@ -30,8 +30,7 @@ accepted_read bytes xs s a =
 pub faulty_refused : (bytes : List ℕ) (xs : List Record) (f : SheetFault) (p : Place) → FaultyAt bytes xs f p → (s : System) → Describe bytes s → ⊥
 faulty_refused bytes xs f p b s d =
     let q = (one_reading nothing bytes xs d.written.records (Some f) None (faulty_reading bytes xs f p b) (described bytes s d)).1 in
-    let z : ◌≡◌ {A = ℕ} 0 1 = cc in
-    omega arith
+    grind arith
 
 pub written_out_back : (s : System) → Lawful s → complete s ≡ true → Describe (written_out s) s
 written_out_back s l w = record { lawful = l; whole = w; written = written_out_describes s l }

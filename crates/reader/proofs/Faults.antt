@@ -22,7 +22,7 @@ one_fault : (bytes : List ℕ) (xs ys : List Record) (f g : SheetFault) (p q : P
 one_fault bytes xs ys f g p q a b =
     let r = one_reading nothing bytes xs ys (Some f) (Some g) (faulty_reading bytes xs f p a) (faulty_reading bytes ys g q b) in
     let s = r.1 in
-    ((let e : f ≡ g = cc in e), place_same p q (a.record ∙ (ap length r.0 ∙ sym b.record)) (a.byte ∙ (ap (λ l. length (written_all l)) r.0 ∙ sym b.byte)))
+    (cc, place_same p q (a.record ∙ (ap length r.0 ∙ sym b.record)) (a.byte ∙ (ap (λ l. length (written_all l)) r.0 ∙ sym b.byte)))
 
 faults_same : (bytes : List ℕ) (xs ys : List Record) (f g : Fault) → Faulty bytes xs f → Faulty bytes ys g → g ≡ f
 faults_same bytes xs ys (Fault.Sheet f p) (Fault.Sheet g q) a b = let r = one_fault bytes ys xs g f q p b a in ap₂ (λ (h : SheetFault) (o : Place). Fault.Sheet h o) r.0 r.1

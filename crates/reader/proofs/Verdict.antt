@@ -40,8 +40,8 @@ known c k e = grind (arith, nat_tests)
 
 unknown : (c : ℕ) → ((k : Kind) → letter k ≡ c → ⊥) → kind_at c ≡ None
 unknown c none =
-    elim (kind_at c) as (λ o. kind_at c ≡ o → o ≡ None) [
-      | None ↦ λ e. refl
+    elim (kind_at c) as (λ o. kind_at c ≡ o → kind_at c ≡ None) [
+      | None ↦ λ e. e
       | Some k ↦ λ e. absurd (none k (known c k e))
     ] refl
 
@@ -78,14 +78,9 @@ module _ (s : System) where
 
   unlawful : (k : Kind) (body : List ℕ) → length body ≡ body_length k → room s k ≡ true → ((x : Record) → written x ≡ letter k ∷ body → obeys s x ≡ true → ⊥) → judge s k body ≡ Err BadBody
   unlawful k body n r none =
-      ap (λ b. cond b (judged s (decoded s k body)) (Err TooMany)) r
-      ∙ elim (decoded s k body) as (λ o. decoded s k body ≡ o → judged s o ≡ Err BadBody) [
-        | None ↦ λ d. refl
-        | Some x ↦ λ d.
-            elim (obeys s x) as (λ b. obeys s x ≡ b → cond b (cond (fresh s x) (Ok x) (Err Repeated)) (Err BadBody) ≡ Err BadBody) [
-              | true ↦ λ o. absurd (none x (decode_writes s k body x n d) o)
-              | false ↦ λ o. refl
-            ] refl
+      elim (decoded s k body) as (λ o. decoded s k body ≡ o → judge s k body ≡ Err BadBody) [
+        | None ↦ λ d. grind arith
+        | Some x ↦ λ d. let against = none x (decode_writes s k body x n d) in grind arith
       ] refl
 
   pub stopped : (rest : List ℕ) (f : SheetFault) → Stops s rest f → verdict s rest ≡ Err (Some f)
@@ -94,7 +89,7 @@ module _ (s : System) where
   stopped rest UnknownLetter t = ap (verdict s) t.is ∙ ap (of_kind s t.more) (unknown t.byte t.none)
   stopped rest BadBody t = ap (verdict s) t.is ∙ inside t.kind t.body t.more t.whole (not_69 t.kind t.inside) ∙ ap of_judged (unlawful t.kind t.body t.whole t.room t.none)
   stopped rest TooMany t =
-      let inside-kind : t.kind ≡ Kind.End → ⊥ = λ e. let q : ◌≡◌ {A = Bool} true false = ap (room s) (sym e) ∙ t.room in let z : ◌≡◌ {A = ℕ} 0 1 = cc in omega arith in
+      let inside-kind : t.kind ≡ Kind.End → ⊥ = λ e. let full = t.room in grind arith in
       ap (verdict s) t.is ∙ inside t.kind t.body t.more t.whole (not_69 t.kind inside-kind) ∙ ap (λ b. of_judged (cond b (judged s (decoded s t.kind t.body)) (Err TooMany))) t.room
   stopped rest Repeated t = ap (verdict s) t.is ∙ obeying t.what t.more t.room t.obeys ∙ ap (λ b. cond b (Ok t.what) (Err (Some Repeated))) t.stale
   stopped rest Incomplete t = ap (verdict s) t.is ∙ whole Kind.End [] t.more refl ∙ ap (λ b. cond b (of_rest t.more) (Err (Some Incomplete))) t.lacks
@@ -121,22 +116,26 @@ module _ (s : System) (bytes : List ℕ) (x : Record) (xs : List Record) (v : Op
   first = ap (verdict s) front ∙ goes_on s x (written_all xs ++ r.rest) r.allowed.0
 
   not_over : (w : Option SheetFault) → verdict s bytes ≡ Err w → ⊥
-  not_over w e = let q : ◌≡◌ {A = Result Record (Option SheetFault)} (Ok x) (Err w) = sym first ∙ e in let z : ◌≡◌ {A = ℕ} 0 1 = cc in omega arith
+  not_over w e = let here = first in grind arith
 
 -- the same bytes are read in one way
 pub one_reading : (s : System) (bytes : List ℕ) (xs ys : List Record) (v w : Option SheetFault) → Reading s bytes xs v → Reading s bytes ys w → (xs ≡ ys) × (v ≡ w)
 one_reading s bytes [] [] v w a b =
-    let q : ◌≡◌ {A = Result Record (Option SheetFault)} (Err v) (Err w) = sym a.ends ∙ (ap (verdict s) (sym a.is ∙ b.is) ∙ b.ends) in
-    (refl, (let r : v ≡ w = cc in r))
+    let at = a.is in
+    let at' = b.is in
+    let ends = a.ends in
+    let ends' = b.ends in
+    (refl, cc)
 one_reading s bytes [] (y ∷ ys) v w a b = absurd (not_over s bytes y ys w b v (ap (verdict s) a.is ∙ a.ends))
 one_reading s bytes (x ∷ xs) [] v w a b = absurd (not_over s bytes x xs v a w (ap (verdict s) b.is ∙ b.ends))
 one_reading s bytes (x ∷ xs) (y ∷ ys) v w a b =
-    let q : ◌≡◌ {A = Result Record (Option SheetFault)} (Ok x) (Ok y) = sym (first s bytes x xs v a) ∙ first s bytes y ys w b in
+    let first-x = first s bytes x xs v a in
+    let first-y = first s bytes y ys w b in
     let p : x ≡ y = cc in
     let tails = append_cancel_left (written x) (written_all xs ++ a.rest) (written_all ys ++ b.rest) (sym (front s bytes x xs v a) ∙ (front s bytes y ys w b ∙ ap (λ z. written z ++ (written_all ys ++ b.rest)) (sym p))) in
     let more = one_reading (add s x) (written_all xs ++ a.rest) xs ys v w (record { rest = a.rest; is = refl; allowed = a.allowed.1; ends = a.ends }) (record { rest = b.rest; is = tails; allowed = subst (λ z. AllAllowed (add s z) ys) (sym p) b.allowed.1; ends = subst (λ z. verdict (gather (add s z) ys) b.rest ≡ Err w) (sym p) b.ends }) in
     let m = more.0 in
-    ((let r : x ∷ xs ≡ y ∷ ys = cc in r), more.1)
+    (cc, more.1)
 
 pub faulty_reading : (bytes : List ℕ) (xs : List Record) (f : SheetFault) (p : Place) → FaultyAt bytes xs f p → Reading nothing bytes xs (Some f)
 faulty_reading bytes xs f p a = record { rest = a.rest; is = a.is; allowed = a.allowed; ends = stopped (gather nothing xs) a.rest f a.stops }
