@@ -1,19 +1,13 @@
 -- The bytes that say something are just those that a record is written as.
-use Rattle.std.proofs.Common.{◌≡◌, ℕ, Bool, true, false, cond, eqb, List, [], ◌∷◌, length, get_or, Some, None, Option, sym, refl, ap, ◌∙◌, ap₂, arith}
+use Rattle.std.proofs.Common.{◌≡◌, ℕ, true, cond, eqb, List, [], ◌∷◌, length, get_or, Some, None, Option, sym, refl, ap, ◌∙◌, arith}
 use Rattle.std.proofs.lemmas.Bool.Decides.{nat_tests}
-use Rattle.sheet.specs.declared.syntax.Args.{Args}
-use Rattle.sheet.specs.declared.syntax.Args.TheVariants.{Zero, One, Two, Three}
-use Rattle.sheet.specs.declared.syntax.Choice.{Choice}
-use Rattle.sheet.specs.declared.syntax.Formula.{Formula}
 use Rattle.sheet.specs.declared.kind.Kind.{Kind}
 use Rattle.sheet.specs.declared.syntax.Record.{Record}
-use Rattle.sheet.specs.declared.syntax.Start.{Start}
 use Rattle.sheet.specs.declared.syntax.Term.{Term}
-use Rattle.reader.specs.Decode.{bit_of, start_of, args_of, term_of, formula_of, choice_of, decoded}
-use Rattle.sheet.specs.Rules.{keeps, arg_count}
+use Rattle.reader.specs.Decode.{decoded}
+use Rattle.sheet.specs.Rules.{keeps}
 use Rattle.sheet.specs.System.{System}
-use Rattle.std.specs.Option.{option_map}
-use Rattle.sheet.specs.Format.{letter, body_length, kind_of, body_of, written, start_body, args_body, term_body, formula_body, choice_body}
+use Rattle.sheet.specs.Format.{letter, body_length, kind_of, body_of, written}
 
 -- a list of a known length, by its elements
 exact0 : (b : List ℕ) → length b ≡ 0 → b ≡ []

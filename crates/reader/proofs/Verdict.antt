@@ -1,5 +1,5 @@
 -- What is read next is a function of the bytes, so the same bytes are read in one way.
-use Rattle.std.proofs.Common.{◌≡◌, ℕ, ◌<◌, Bool, true, false, cond, eqb, ltb, List, [], ◌∷◌, ◌++◌, length, take, drop, Some, None, Ok, Err, Option, Result, sym, refl, ap, ◌∙◌, subst, ap₂, inl, inr, append_assoc, arith, length-append}
+use Rattle.std.proofs.Common.{◌≡◌, ℕ, ◌<◌, true, false, cond, eqb, ltb, List, [], ◌∷◌, ◌++◌, length, take, drop, Some, None, Ok, Err, Option, Result, sym, refl, ap, ◌∙◌, subst, ap₂, inl, inr, append_assoc, arith, length-append}
 use Rattle.std.proofs.lemmas.Bool.Decides.{nat_tests}
 use Rattle.std.proofs.lemmas.List.{append_cancel_left, take_at, drop_at}
 use Rattle.fault.specs.declared.Place.{Place}
@@ -12,7 +12,7 @@ use Rattle.reader.specs.Outcome.{Allowed, AllAllowed, complete, Stops, FaultyAt}
 use Rattle.sheet.specs.Format.{letter, body_length, kind_of, body_of, written, written_all}
 use Rattle.sheet.specs.Rules.{room, obeys, fresh}
 use Rattle.sheet.specs.System.{System, nothing, add, gather}
-use Rattle.reader.proofs.Decoding.{kind_at, kind_at_letter, decode_writes, decode_finds, letter-same, length-body_of}
+use Rattle.reader.proofs.Decoding.{kind_at, kind_at_letter, decode_writes, decode_finds, length-body_of}
 use Rattle.reader.proofs.Judgement.{obeys-keeps}
 
 abbrev of_judged : Result Record SheetFault → Result Record (Option SheetFault)
