@@ -15,7 +15,8 @@ use Rattle.sheet.specs.Lawful.{each_at, given, Lawful}
 use Rattle.sheet.specs.Rules.{names, keeps, obeys_at, count, fresh}
 use Rattle.sheet.specs.System.{System, nothing, add, gather, no_bit, no_reading}
 use Rattle.sheet.proofs.Eaches.{left_true, each_at-index}
-use Rattle.reader.specs.Canonical.{bit_record, symbol_record, reading_record, term_record, question_record, claim_record, formula_record, choice_record, given_record, next_bit_records, next_reading_records, records_of, written_out}
+use Rattle.reader.proofs.Orders.{from-given}
+use Rattle.reader.specs.Canonical.{bit_record, symbol_record, reading_record, term_record, question_record, claim_record, formula_record, choice_record, given_record, next_records, records_of, written_out}
 use Rattle.reader.specs.Law.{InOrder, WrittenAs}
 
 gather_append : (s : System) (xs ys : List Record) → gather s (xs ++ ys) ≡ gather (gather s xs) ys
@@ -55,30 +56,46 @@ tested test all done x more e h =
     let here : get_or all (length done) x ≡ x = ap (λ l. get_or l (length done) x) (sym e) ∙ get_or_at done x more x (length done) refl in
     ap₂ test (sym (zero-add (length done))) (sym here) ∙ each_at-index test 0 all (length done) x h inside
 
--- bits and readings before they are given next values
+-- a record that is there if a value is
+given_leads : (mk : ℕ → Record) (st : Option ℕ → System) (o : Option ℕ) → ((n : ℕ) → o ≡ Some n → (names (st None) (count (st None) (kind_of (mk n))) (mk n) ≡ true) × (fresh (st None) (mk n) ≡ true) × (add (st None) (mk n) ≡ st (Some n))) → Leads (st None) (given_record mk o) (st o)
+given_leads mk st None f = record { order = tt; ends = refl }
+given_leads mk st (Some n) f = let h = f n refl in record { order = (h.0, h.1, tt); ends = h.2 }
+
+-- Next values: each is given to an element that is there already, and has none. st is the state with these elements.
+module _ {A : Type 0} (next : A → Option ℕ) (with_next : A → Option ℕ → A) (same : (x : A) → with_next x (next x) ≡ x) (blank : A) (mk : ℕ → ℕ → Record) (st : List A → System) (test : Record → Bool) (all : List A) (each : each_at (λ m x. given (λ n. test (mk m n)) (next x)) 0 all ≡ true)
+    (gives : (xs : List A) (k n : ℕ) (x : A) → length xs ≡ length all → get_or xs k blank ≡ with_next x None → test (mk k n) ≡ true → (names (st xs) (count (st xs) (kind_of (mk k n))) (mk k n) ≡ true) × (fresh (st xs) (mk k n) ≡ true) × (add (st xs) (mk k n) ≡ st (set xs k (with_next x (Some n))))) where
+  abbrev bare : List A → List A
+  bare xs = map (λ x. with_next x None) xs
+
+  one_given : (done rest : List A) (x : A) → done ++ x ∷ rest ≡ all → Leads (st (done ++ bare (x ∷ rest))) (given_record (mk (length done)) (next x)) (st (done ++ x ∷ bare rest))
+  one_given done rest x e =
+      let lengths : length (done ++ bare (x ∷ rest)) ≡ length all = omega (arith, sym (ap length e), length-append done (bare (x ∷ rest)), length-append done (x ∷ rest), length-map rest (λ y. with_next y None)) in
+      let here : get_or (done ++ bare (x ∷ rest)) (length done) blank ≡ with_next x None = get_or_at done (with_next x None) (bare rest) blank (length done) refl in
+      let tests = tested (λ m y. given (λ n. test (mk m n)) (next y)) all done x rest e each in
+      subst (λ y. Leads (st (done ++ bare (x ∷ rest))) (given_record (mk (length done)) (next x)) (st (done ++ y ∷ bare rest))) (same x)
+      (given_leads (mk (length done)) (λ o. st (done ++ with_next x o ∷ bare rest)) (next x) (λ n is.
+      let g = gives (done ++ bare (x ∷ rest)) (length done) n x lengths here (from-given (λ n. test (mk (length done) n)) (next x) n is tests) in
+      (g.0, g.1, g.2 ∙ ap st (set_at done (with_next x None) (bare rest) (with_next x (Some n)) (length done) refl))))
+
+  given_from : (done rest : List A) → done ++ rest ≡ all → Leads (st (done ++ bare rest)) (next_records next mk (length done) rest) (st all)
+  given_from done [] e = record { order = tt; ends = ap st e }
+  given_from done (x ∷ rest) e =
+      let more = given_from (done ++ x ∷ []) rest (append_assoc done (x ∷ []) rest ∙ e) in
+      let more' = subst (λ n. Leads (st (done ++ x ∷ bare rest)) (next_records next mk n rest) (st all)) (omega (arith, length-append done (x ∷ []))) (subst (λ xs. Leads (st xs) (next_records next mk (length (done ++ x ∷ [])) rest) (st all)) (append_assoc done (x ∷ []) (bare rest)) more) in
+      leads_append _ _ _ _ _ (one_given done rest x e) more'
+
+-- bits and readings with another next value, or with none
+abbrev bit_next : Bit → Option ℕ → Bit
+bit_next b o = record { start = b.start; next = o }
+
+abbrev reading_next : Reading → Option ℕ → Reading
+reading_next r o = record { start = r.start; next = o }
+
 abbrev bare_bit : Bit → Bit
-bare_bit b = record { start = b.start; next = None }
+bare_bit b = bit_next b None
 
 abbrev bare_reading : Reading → Reading
-bare_reading r = record { start = r.start; next = None }
-
-abbrev rebuilt_bit : Bool → Option ℕ → Bit
-rebuilt_bit b o = record { start = b; next = o }
-
-abbrev rebuilt_reading : Start → Option ℕ → Reading
-rebuilt_reading w o = record { start = w; next = o }
-
-bare_bit-same : (b : Bit) → b.next ≡ None → bare_bit b ≡ b
-bare_bit-same b e = ap (λ (o : Option ℕ). rebuilt_bit b.start o) (sym e)
-
-given_bit : (b : Bit) (f : ℕ) → b.next ≡ Some f → ◌≡◌ {A = Bit} (record { start = b.start; next = Some f }) b
-given_bit b f e = ap (λ (o : Option ℕ). rebuilt_bit b.start o) (sym e)
-
-bare_reading-same : (r : Reading) → r.next ≡ None → bare_reading r ≡ r
-bare_reading-same r e = ap (λ (o : Option ℕ). rebuilt_reading r.start o) (sym e)
-
-given_reading : (r : Reading) (k : ℕ) → r.next ≡ Some k → ◌≡◌ {A = Reading} (record { start = r.start; next = Some k }) r
-given_reading r k e = ap (λ (o : Option ℕ). rebuilt_reading r.start o) (sym e)
+bare_reading r = reading_next r None
 
 module _ (s : System) (l : Lawful s) where
   abbrev stage : List Bit → List ℕ → List Reading → ℕ → List Term → List Equation → List Equation → List Formula → List Choice → Option ℕ → Option ℕ → System
@@ -164,78 +181,30 @@ module _ (s : System) (l : Lawful s) where
   abbrev things : List Bit → List Reading → Option ℕ → Option ℕ → System
   things b r v h = stage b s.symbols r s.inputs s.terms s.questions s.claims s.formulas s.choices v h
 
-  bit_given : (done rest : List Bit) (b : Bit) → done ++ b ∷ rest ≡ s.bits → Leads (things (done ++ map bare_bit (b ∷ rest)) r₁ None None) (given_record (λ f. Record.NextBit (length done) f) b.next) (things (done ++ b ∷ map bare_bit rest) r₁ None None)
-  bit_given done rest b e = by_next b.next refl
-    where
-      lengths : length (done ++ map bare_bit (b ∷ rest)) ≡ length s.bits
-      lengths = omega (arith, sym (ap length e), length-append done (map bare_bit (b ∷ rest)), length-append done (b ∷ rest), length-map rest bare_bit)
+  bits_given : Leads (things b₁ r₁ None None) (next_records (λ b. b.next) (λ k f. Record.NextBit k f) 0 s.bits) (things s.bits r₁ None None)
+  bits_given =
+      given_from (λ b. b.next) bit_next (λ b. refl) no_bit (λ k f. Record.NextBit k f) (λ bs. things bs r₁ None None) (obeys_at s 0) s.bits l.each.next_bits
+      (λ bs k f b same here ok. (ap (λ m. ltb k m && ltb f (length s.formulas)) same ∙ named 0 (Record.NextBit k f) ok, ap (λ (x : Bit). not (is_some x.next)) here, ap (λ (x : Bit). things (set bs k (bit_next x (Some f))) r₁ None None) here)) [] s.bits refl
 
-      here : get_or (done ++ map bare_bit (b ∷ rest)) (length done) no_bit ≡ bare_bit b
-      here = get_or_at done (bare_bit b) (map bare_bit rest) no_bit (length done) refl
-
-      by_next : (o : Option ℕ) → b.next ≡ o → Leads (things (done ++ map bare_bit (b ∷ rest)) r₁ None None) (given_record (λ f. Record.NextBit (length done) f) o) (things (done ++ b ∷ map bare_bit rest) r₁ None None)
-      by_next None n = record { order = tt; ends = ap (λ (x : Bit). things (done ++ x ∷ map bare_bit rest) r₁ None None) (let q : bare_bit b ≡ b = bare_bit-same b n in q) }
-      by_next (Some f) n =
-          let h = named 0 (Record.NextBit (length done) f) (subst (λ o. given (λ g. obeys_at s 0 (Record.NextBit (length done) g)) o ≡ true) n (tested (λ m y. given (λ g. obeys_at s 0 (Record.NextBit m g)) y.next) s.bits done b rest e l.each.next_bits)) in
-          record { order = (ap (λ m. ltb (length done) m && ltb f (length s.formulas)) lengths ∙ h, ap (λ (x : Bit). not (is_some x.next)) here, tt); ends = ap (λ bs. things bs r₁ None None) (ap (λ (x : Bit). set (done ++ map bare_bit (b ∷ rest)) (length done) (record { start = x.start; next = Some f })) here ∙ (set_at done (bare_bit b) (map bare_bit rest) (record { start = b.start; next = Some f }) (length done) refl ∙ ap (λ (x : Bit). done ++ x ∷ map bare_bit rest) (given_bit b f n))) }
-
-  bits_given_from : (done rest : List Bit) → done ++ rest ≡ s.bits → Leads (things (done ++ map bare_bit rest) r₁ None None) (next_bit_records (length done) rest) (things s.bits r₁ None None)
-  bits_given_from done [] e = record { order = tt; ends = ap (λ b. things b r₁ None None) e }
-  bits_given_from done (b ∷ rest) e =
-      let first = bit_given done rest b e in
-      let regroup = append_assoc done (b ∷ []) (map bare_bit rest) in
-      let more = bits_given_from (done ++ b ∷ []) rest (append_assoc done (b ∷ []) rest ∙ e) in
-      let more' : Leads (things (done ++ b ∷ map bare_bit rest) r₁ None None) (next_bit_records (suc (length done)) rest) (things s.bits r₁ None None) =
-      subst (λ n. Leads (things (done ++ b ∷ map bare_bit rest) r₁ None None) (next_bit_records n rest) (things s.bits r₁ None None)) (omega (arith, length-append done (b ∷ []))) (subst (λ bs. Leads (things bs r₁ None None) (next_bit_records (length (done ++ b ∷ [])) rest) (things s.bits r₁ None None)) regroup more) in
-      leads_append (things (done ++ map bare_bit (b ∷ rest)) r₁ None None) (things (done ++ b ∷ map bare_bit rest) r₁ None None) (things s.bits r₁ None None) (given_record (λ f. Record.NextBit (length done) f) b.next) (next_bit_records (suc (length done)) rest) first more'
-
-  reading_given : (done rest : List Reading) (b : Reading) → done ++ b ∷ rest ≡ s.readings → Leads (things s.bits (done ++ map bare_reading (b ∷ rest)) None None) (given_record (λ f. Record.NextReading (length done) f) b.next) (things s.bits (done ++ b ∷ map bare_reading rest) None None)
-  reading_given done rest b e = by_next b.next refl
-    where
-      lengths : length (done ++ map bare_reading (b ∷ rest)) ≡ length s.readings
-      lengths = omega (arith, sym (ap length e), length-append done (map bare_reading (b ∷ rest)), length-append done (b ∷ rest), length-map rest bare_reading)
-
-      here : get_or (done ++ map bare_reading (b ∷ rest)) (length done) no_reading ≡ bare_reading b
-      here = get_or_at done (bare_reading b) (map bare_reading rest) no_reading (length done) refl
-
-      by_next : (o : Option ℕ) → b.next ≡ o → Leads (things s.bits (done ++ map bare_reading (b ∷ rest)) None None) (given_record (λ f. Record.NextReading (length done) f) o) (things s.bits (done ++ b ∷ map bare_reading rest) None None)
-      by_next None n = record { order = tt; ends = ap (λ (x : Reading). things s.bits (done ++ x ∷ map bare_reading rest) None None) (let q : bare_reading b ≡ b = bare_reading-same b n in q) }
-      by_next (Some f) n =
-          let h = named 0 (Record.NextReading (length done) f) (subst (λ o. given (λ g. obeys_at s 0 (Record.NextReading (length done) g)) o ≡ true) n (tested (λ m y. given (λ g. obeys_at s 0 (Record.NextReading m g)) y.next) s.readings done b rest e l.each.next_readings)) in
-          record { order = (ap (λ m. ltb (length done) m && ltb f (length s.choices)) lengths ∙ h, ap (λ (x : Reading). not (is_some x.next)) here, tt); ends = ap (λ bs. things s.bits bs None None) (ap (λ (x : Reading). set (done ++ map bare_reading (b ∷ rest)) (length done) (record { start = x.start; next = Some f })) here ∙ (set_at done (bare_reading b) (map bare_reading rest) (record { start = b.start; next = Some f }) (length done) refl ∙ ap (λ (x : Reading). done ++ x ∷ map bare_reading rest) (given_reading b f n))) }
-
-  readings_given_from : (done rest : List Reading) → done ++ rest ≡ s.readings → Leads (things s.bits (done ++ map bare_reading rest) None None) (next_reading_records (length done) rest) (things s.bits s.readings None None)
-  readings_given_from done [] e = record { order = tt; ends = ap (λ b. things s.bits b None None) e }
-  readings_given_from done (b ∷ rest) e =
-      let first = reading_given done rest b e in
-      let regroup = append_assoc done (b ∷ []) (map bare_reading rest) in
-      let more = readings_given_from (done ++ b ∷ []) rest (append_assoc done (b ∷ []) rest ∙ e) in
-      let more' : Leads (things s.bits (done ++ b ∷ map bare_reading rest) None None) (next_reading_records (suc (length done)) rest) (things s.bits s.readings None None) =
-      subst (λ n. Leads (things s.bits (done ++ b ∷ map bare_reading rest) None None) (next_reading_records n rest) (things s.bits s.readings None None)) (omega (arith, length-append done (b ∷ []))) (subst (λ bs. Leads (things s.bits bs None None) (next_reading_records (length (done ++ b ∷ [])) rest) (things s.bits s.readings None None)) regroup more) in
-      leads_append (things s.bits (done ++ map bare_reading (b ∷ rest)) None None) (things s.bits (done ++ b ∷ map bare_reading rest) None None) (things s.bits s.readings None None) (given_record (λ f. Record.NextReading (length done) f) b.next) (next_reading_records (suc (length done)) rest) first more'
+  readings_given : Leads (things s.bits r₁ None None) (next_records (λ r. r.next) (λ k c. Record.NextReading k c) 0 s.readings) (things s.bits s.readings None None)
+  readings_given =
+      given_from (λ r. r.next) reading_next (λ r. refl) no_reading (λ k c. Record.NextReading k c) (λ rs. things s.bits rs None None) (obeys_at s 0) s.readings l.each.next_readings
+      (λ rs k c r same here ok. (ap (λ m. ltb k m && ltb c (length s.choices)) same ∙ named 0 (Record.NextReading k c) ok, ap (λ (x : Reading). not (is_some x.next)) here, ap (λ (x : Reading). things s.bits (set rs k (reading_next x (Some c))) None None) here)) [] s.readings refl
 
   invariant-given : Leads (things s.bits s.readings None None) (given_record (λ f. Record.Invariant f) s.invariant) (things s.bits s.readings s.invariant None)
-  invariant-given = by_given s.invariant l.each.invariant
-    where
-      by_given : (o : Option ℕ) → given (λ f. obeys_at s 0 (Record.Invariant f)) o ≡ true → Leads (things s.bits s.readings None None) (given_record (λ f. Record.Invariant f) o) (things s.bits s.readings o None)
-      by_given None h = record { order = tt; ends = refl }
-      by_given (Some f) h = record { order = (named 0 (Record.Invariant f) h, refl, tt); ends = refl }
+  invariant-given = given_leads (λ f. Record.Invariant f) (λ o. things s.bits s.readings o None) s.invariant (λ f is. (named 0 (Record.Invariant f) (from-given (λ f. obeys_at s 0 (Record.Invariant f)) s.invariant f is l.each.invariant), refl, refl))
 
   bound_given : Leads (things s.bits s.readings s.invariant None) (given_record (λ h. Record.Bound h) s.bound) s
-  bound_given = by_given s.bound l.each.bound
-    where
-      by_given : (o : Option ℕ) → given (λ h. obeys_at s 0 (Record.Bound h)) o ≡ true → Leads (things s.bits s.readings s.invariant None) (given_record (λ h. Record.Bound h) o) (things s.bits s.readings s.invariant o)
-      by_given None h = record { order = tt; ends = refl }
-      by_given (Some n) h = record { order = (refl, refl, tt); ends = refl }
+  bound_given = given_leads (λ h. Record.Bound h) (λ o. things s.bits s.readings s.invariant o) s.bound (λ h is. (refl, refl, refl))
 
   -- all of them, from the last to the first
   from_invariant : Leads (things s.bits s.readings None None) (given_record (λ f. Record.Invariant f) s.invariant ++ given_record (λ h. Record.Bound h) s.bound) s
   from_invariant = leads_append _ _ _ _ _ invariant-given bound_given
 
-  from_next_values : Leads (things b₁ r₁ None None) (next_bit_records 0 s.bits ++ (next_reading_records 0 s.readings ++ (given_record (λ f. Record.Invariant f) s.invariant ++ given_record (λ h. Record.Bound h) s.bound))) s
-  from_next_values = leads_append _ _ _ _ _ (bits_given_from [] s.bits refl) (leads_append _ _ _ _ _ (readings_given_from [] s.readings refl) from_invariant)
+  from_next_values : Leads (things b₁ r₁ None None) (next_records (λ b. b.next) (λ k f. Record.NextBit k f) 0 s.bits ++ (next_records (λ r. r.next) (λ k c. Record.NextReading k c) 0 s.readings ++ (given_record (λ f. Record.Invariant f) s.invariant ++ given_record (λ h. Record.Bound h) s.bound))) s
+  from_next_values = leads_append _ _ _ _ _ bits_given (leads_append _ _ _ _ _ readings_given from_invariant)
 
-  from_questions : Leads (stage b₁ s.symbols r₁ s.inputs s.terms [] [] [] [] None None) (map question_record s.questions ++ (map claim_record s.claims ++ (map formula_record s.formulas ++ (map choice_record s.choices ++ (next_bit_records 0 s.bits ++ (next_reading_records 0 s.readings ++ (given_record (λ f. Record.Invariant f) s.invariant ++ given_record (λ h. Record.Bound h) s.bound))))))) s
+  from_questions : Leads (stage b₁ s.symbols r₁ s.inputs s.terms [] [] [] [] None None) (map question_record s.questions ++ (map claim_record s.claims ++ (map formula_record s.formulas ++ (map choice_record s.choices ++ (next_records (λ b. b.next) (λ k f. Record.NextBit k f) 0 s.bits ++ (next_records (λ r. r.next) (λ k c. Record.NextReading k c) 0 s.readings ++ (given_record (λ f. Record.Invariant f) s.invariant ++ given_record (λ h. Record.Bound h) s.bound))))))) s
   from_questions = leads_append _ _ _ _ _ questions_next (leads_append _ _ _ _ _ claims_next (leads_append _ _ _ _ _ formulas_next (leads_append _ _ _ _ _ choices_next from_next_values)))
 
   all_records : Leads nothing (records_of s) s
