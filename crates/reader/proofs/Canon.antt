@@ -122,8 +122,7 @@ module _ (s : System) (l : Lawful s) where
       (λ done x more e. (reading_fits (map bare_reading done) (length done) (length (map bare_reading done)) x.start (named (length done) (Record.Reading x.start) (tested (λ n y. obeys_at s n (Record.Reading y.start)) s.readings done x more e l.each.readings)), refl))
     where
       reading_fits : (r : List Reading) (n m : ℕ) (w : Start) → names s n (Record.Reading w) ≡ true → names (stage b₁ s.symbols r 0 [] [] [] [] [] None None) m (Record.Reading w) ≡ true
-      reading_fits r n m (Start.Name v) h = h
-      reading_fits r n m (Start.Constant c) h = h
+      reading_fits r n m w h = grind arith
 
   inputs_from : (m n : ℕ) → Leads (stage b₁ s.symbols r₁ m [] [] [] [] [] None None) (replicate n Record.Input) (stage b₁ s.symbols r₁ (m + n) [] [] [] [] [] None None)
   inputs_from m zero = record { order = tt; ends = ap (λ i. stage b₁ s.symbols r₁ i [] [] [] [] [] None None) (sym (add-zero m)) }
@@ -135,9 +134,7 @@ module _ (s : System) (l : Lawful s) where
   inputs_next = subst (λ i. Leads (stage b₁ s.symbols r₁ 0 [] [] [] [] [] None None) (replicate s.inputs Record.Input) (stage b₁ s.symbols r₁ i [] [] [] [] [] None None)) (zero-add s.inputs) (inputs_from 0 s.inputs)
 
   term_fits : (ts : List Term) (n : ℕ) (x : Term) → names s n (Record.Term x) ≡ true → names (stage b₁ s.symbols r₁ s.inputs ts [] [] [] [] None None) n (Record.Term x) ≡ true
-  term_fits ts n (Term.Reading i) h = ap (λ m. ltb i m) (length-map s.readings bare_reading) ∙ h
-  term_fits ts n (Term.Input i) h = h
-  term_fits ts n (Term.Apply f args) h = h
+  term_fits ts n x h = grind (arith, length-map s.readings bare_reading)
 
   terms_next : Leads (stage b₁ s.symbols r₁ s.inputs [] [] [] [] [] None None) (map term_record s.terms) (stage b₁ s.symbols r₁ s.inputs s.terms [] [] [] [] None None)
   terms_next =
@@ -155,13 +152,7 @@ module _ (s : System) (l : Lawful s) where
       (λ done x more e. (named (length done) (Record.Claim x) (tested (λ n y. obeys_at s n (Record.Claim y)) s.claims done x more e l.each.claims), refl))
 
   formula_fits : (fs : List Formula) (n : ℕ) (x : Formula) → names s n (Record.Formula x) ≡ true → names (stage b₁ s.symbols r₁ s.inputs s.terms s.questions s.claims fs [] None None) n (Record.Formula x) ≡ true
-  formula_fits fs n Formula.True h = h
-  formula_fits fs n (Formula.Bit i) h = ap (λ m. ltb i m) (length-map s.bits bare_bit) ∙ h
-  formula_fits fs n (Formula.Question q) h = h
-  formula_fits fs n (Formula.Claim c) h = h
-  formula_fits fs n (Formula.Not a) h = h
-  formula_fits fs n (Formula.And a b) h = h
-  formula_fits fs n (Formula.Or a b) h = h
+  formula_fits fs n x h = grind (arith, length-map s.bits bare_bit)
 
   formulas_next : Leads (stage b₁ s.symbols r₁ s.inputs s.terms s.questions s.claims [] [] None None) (map formula_record s.formulas) (stage b₁ s.symbols r₁ s.inputs s.terms s.questions s.claims s.formulas [] None None)
   formulas_next =
@@ -169,8 +160,7 @@ module _ (s : System) (l : Lawful s) where
       (λ done x more e. (formula_fits done (length done) x (named (length done) (Record.Formula x) (tested (λ n y. obeys_at s n (Record.Formula y)) s.formulas done x more e l.each.formulas)), refl))
 
   choice_fits : (ks : List Choice) (n : ℕ) (x : Choice) → names s n (Record.Choice x) ≡ true → names (stage b₁ s.symbols r₁ s.inputs s.terms s.questions s.claims s.formulas ks None None) n (Record.Choice x) ≡ true
-  choice_fits ks n (Choice.Term t) h = h
-  choice_fits ks n (Choice.If f a b) h = h
+  choice_fits ks n x h = grind arith
 
   choices_next : Leads (stage b₁ s.symbols r₁ s.inputs s.terms s.questions s.claims s.formulas [] None None) (map choice_record s.choices) (stage b₁ s.symbols r₁ s.inputs s.terms s.questions s.claims s.formulas s.choices None None)
   choices_next =
