@@ -1,5 +1,5 @@
 -- A lawful sheet that is written out letter after letter stands in a lawful order, and describes itself.
-use Rattle.std.proofs.Common.{◌≡◌, ℕ, zero, suc, ◌+◌, ◌<◌, Bool, true, not, ◌&&◌, ltb, List, [], ◌∷◌, ◌++◌, map, length, get_or, set, replicate, is_some, Some, None, Option, sym, refl, ap, ◌∙◌, subst, ap₂, append_assoc, add-zero, zero-add, arith, length-append}
+use Rattle.std.proofs.Common.{◌≡◌, ℕ, zero, suc, ◌+◌, ◌<◌, Bool, true, not, ◌&&◌, ltb, List, [], ◌∷◌, ◌++◌, map, length, get_or, set, replicate, is_some, Some, None, Option, sym, refl, ap, ◌∙◌, subst, ap₂, append_assoc, zero-add, arith, length-append}
 use lib.ListN.{length-map}
 use Rattle.std.proofs.lemmas.List.{append-nil, get_or_at, set_at, map-append}
 use Rattle.sheet.specs.declared.syntax.Bit.{Bit}
@@ -8,7 +8,6 @@ use Rattle.sheet.specs.declared.syntax.Equation.{Equation}
 use Rattle.sheet.specs.declared.syntax.Formula.{Formula}
 use Rattle.sheet.specs.declared.syntax.Reading.{Reading}
 use Rattle.sheet.specs.declared.syntax.Record.{Record}
-use Rattle.sheet.specs.declared.syntax.Start.{Start}
 use Rattle.sheet.specs.declared.syntax.Term.{Term}
 use Rattle.sheet.specs.Format.{kind_of}
 use Rattle.sheet.specs.Lawful.{each_at, given, Lawful}
@@ -32,8 +31,8 @@ pub record Leads (from : System) (xs : List Record) (to : System) : Type 0 where
   pub order : InOrder from xs
   pub ends : gather from xs ≡ to
 
-leads_append : (r s t : System) (xs ys : List Record) → Leads r xs s → Leads s ys t → Leads r (xs ++ ys) t
-leads_append r s t xs ys a b =
+leads_append : {r s t : System} {xs ys : List Record} → Leads r xs s → Leads s ys t → Leads r (xs ++ ys) t
+leads_append {r} {s} {t} {xs} {ys} a b =
     record { order = in-order-append r xs ys a.order (subst (λ u. InOrder u ys) (sym a.ends) b.order); ends = gather_append r xs ys ∙ (ap (λ u. gather u ys) a.ends ∙ b.ends) }
 
 -- A segment: records of one kind, each of which adds one element to a list. st is the state with the
@@ -82,7 +81,7 @@ module _ {A : Type 0} (next : A → Option ℕ) (with_next : A → Option ℕ �
   given_from done (x ∷ rest) e =
       let more = given_from (done ++ x ∷ []) rest (append_assoc done (x ∷ []) rest ∙ e) in
       let more' = subst (λ n. Leads (st (done ++ x ∷ bare rest)) (next_records next mk n rest) (st all)) (omega (arith, length-append done (x ∷ []))) (subst (λ xs. Leads (st xs) (next_records next mk (length (done ++ x ∷ [])) rest) (st all)) (append_assoc done (x ∷ []) (bare rest)) more) in
-      leads_append _ _ _ _ _ (one_given done rest x e) more'
+      leads_append (one_given done rest x e) more'
 
 -- bits and readings with another next value, or with none
 abbrev bit_next : Bit → Option ℕ → Bit
@@ -116,56 +115,32 @@ module _ (s : System) (l : Lawful s) where
   symbols_next : Leads (stage b₁ [] [] 0 [] [] [] [] [] None None) (map symbol_record s.symbols) (stage b₁ s.symbols [] 0 [] [] [] [] [] None None)
   symbols_next = segment symbol_record (λ done. stage b₁ done [] 0 [] [] [] [] [] None None) (λ done x. refl) s.symbols (λ done x more e. (refl, refl))
 
+  -- a segment of records that obey the rules in the whole sheet
+  obeyed : {A : Type 0} (mk : A → Record) (st : List A → System) (grows : (done : List A) (x : A) → add (st done) (mk x) ≡ st (done ++ x ∷ [])) (all : List A) → each_at (λ n x. obeys_at s n (mk x)) 0 all ≡ true → ((done : List A) (x : A) → names s (length done) (mk x) ≡ true → (names (st done) (count (st done) (kind_of (mk x))) (mk x) ≡ true) × (fresh (st done) (mk x) ≡ true)) → Leads (st []) (map mk all) (st all)
+  obeyed mk st grows all each fits = segment mk st grows all (λ done x more e. fits done x (named (length done) (mk x) (tested (λ n x. obeys_at s n (mk x)) all done x more e each)))
+
   readings_next : Leads (stage b₁ s.symbols [] 0 [] [] [] [] [] None None) (map reading_record s.readings) (stage b₁ s.symbols r₁ 0 [] [] [] [] [] None None)
   readings_next =
-      segment reading_record (λ done. stage b₁ s.symbols (map bare_reading done) 0 [] [] [] [] [] None None) (λ done x. ap (λ r. stage b₁ s.symbols r 0 [] [] [] [] [] None None) (sym (map-append bare_reading done (x ∷ [])))) s.readings
-      (λ done x more e. (reading_fits (map bare_reading done) (length done) (length (map bare_reading done)) x.start (named (length done) (Record.Reading x.start) (tested (λ n y. obeys_at s n (Record.Reading y.start)) s.readings done x more e l.each.readings)), refl))
-    where
-      reading_fits : (r : List Reading) (n m : ℕ) (w : Start) → names s n (Record.Reading w) ≡ true → names (stage b₁ s.symbols r 0 [] [] [] [] [] None None) m (Record.Reading w) ≡ true
-      reading_fits r n m w h = grind arith
+      obeyed reading_record (λ done. stage b₁ s.symbols (map bare_reading done) 0 [] [] [] [] [] None None) (λ done x. ap (λ r. stage b₁ s.symbols r 0 [] [] [] [] [] None None) (sym (map-append bare_reading done (x ∷ [])))) s.readings l.each.readings (λ done x h. (grind arith, refl))
 
-  inputs_from : (m n : ℕ) → Leads (stage b₁ s.symbols r₁ m [] [] [] [] [] None None) (replicate n Record.Input) (stage b₁ s.symbols r₁ (m + n) [] [] [] [] [] None None)
-  inputs_from m zero = record { order = tt; ends = ap (λ i. stage b₁ s.symbols r₁ i [] [] [] [] [] None None) (sym (add-zero m)) }
-  inputs_from m (suc n) =
-      let more = inputs_from (m + 1) n in
-      record { order = (refl, refl, more.order); ends = more.ends ∙ ap (λ i. stage b₁ s.symbols r₁ i [] [] [] [] [] None None) (omega arith) }
-
-  inputs_next : Leads (stage b₁ s.symbols r₁ 0 [] [] [] [] [] None None) (replicate s.inputs Record.Input) (stage b₁ s.symbols r₁ s.inputs [] [] [] [] [] None None)
-  inputs_next = subst (λ i. Leads (stage b₁ s.symbols r₁ 0 [] [] [] [] [] None None) (replicate s.inputs Record.Input) (stage b₁ s.symbols r₁ i [] [] [] [] [] None None)) (zero-add s.inputs) (inputs_from 0 s.inputs)
-
-  term_fits : (ts : List Term) (n : ℕ) (x : Term) → names s n (Record.Term x) ≡ true → names (stage b₁ s.symbols r₁ s.inputs ts [] [] [] [] None None) n (Record.Term x) ≡ true
-  term_fits ts n x h = grind (arith, length-map s.readings bare_reading)
+  inputs_from : (m n t : ℕ) → m + n ≡ t → Leads (stage b₁ s.symbols r₁ m [] [] [] [] [] None None) (replicate n Record.Input) (stage b₁ s.symbols r₁ t [] [] [] [] [] None None)
+  inputs_from m zero t e = record { order = tt; ends = ap (λ i. stage b₁ s.symbols r₁ i [] [] [] [] [] None None) (omega (arith, e)) }
+  inputs_from m (suc n) t e = let more = inputs_from (m + 1) n t (omega (arith, e)) in record { order = (refl, refl, more.order); ends = more.ends }
 
   terms_next : Leads (stage b₁ s.symbols r₁ s.inputs [] [] [] [] [] None None) (map term_record s.terms) (stage b₁ s.symbols r₁ s.inputs s.terms [] [] [] [] None None)
-  terms_next =
-      segment term_record (λ done. stage b₁ s.symbols r₁ s.inputs done [] [] [] [] None None) (λ done x. refl) s.terms
-      (λ done x more e. (term_fits done (length done) x (named (length done) (Record.Term x) (tested (λ n y. obeys_at s n (Record.Term y)) s.terms done x more e l.each.terms)), refl))
+  terms_next = obeyed term_record (λ done. stage b₁ s.symbols r₁ s.inputs done [] [] [] [] None None) (λ done x. refl) s.terms l.each.terms (λ done x h. (grind (arith, length-map s.readings bare_reading), refl))
 
   questions_next : Leads (stage b₁ s.symbols r₁ s.inputs s.terms [] [] [] [] None None) (map question_record s.questions) (stage b₁ s.symbols r₁ s.inputs s.terms s.questions [] [] [] None None)
-  questions_next =
-      segment question_record (λ done. stage b₁ s.symbols r₁ s.inputs s.terms done [] [] [] None None) (λ done x. refl) s.questions
-      (λ done x more e. (named (length done) (Record.Question x) (tested (λ n y. obeys_at s n (Record.Question y)) s.questions done x more e l.each.questions), refl))
+  questions_next = obeyed question_record (λ done. stage b₁ s.symbols r₁ s.inputs s.terms done [] [] [] None None) (λ done x. refl) s.questions l.each.questions (λ done x h. (h, refl))
 
   claims_next : Leads (stage b₁ s.symbols r₁ s.inputs s.terms s.questions [] [] [] None None) (map claim_record s.claims) (stage b₁ s.symbols r₁ s.inputs s.terms s.questions s.claims [] [] None None)
-  claims_next =
-      segment claim_record (λ done. stage b₁ s.symbols r₁ s.inputs s.terms s.questions done [] [] None None) (λ done x. refl) s.claims
-      (λ done x more e. (named (length done) (Record.Claim x) (tested (λ n y. obeys_at s n (Record.Claim y)) s.claims done x more e l.each.claims), refl))
-
-  formula_fits : (fs : List Formula) (n : ℕ) (x : Formula) → names s n (Record.Formula x) ≡ true → names (stage b₁ s.symbols r₁ s.inputs s.terms s.questions s.claims fs [] None None) n (Record.Formula x) ≡ true
-  formula_fits fs n x h = grind (arith, length-map s.bits bare_bit)
+  claims_next = obeyed claim_record (λ done. stage b₁ s.symbols r₁ s.inputs s.terms s.questions done [] [] None None) (λ done x. refl) s.claims l.each.claims (λ done x h. (h, refl))
 
   formulas_next : Leads (stage b₁ s.symbols r₁ s.inputs s.terms s.questions s.claims [] [] None None) (map formula_record s.formulas) (stage b₁ s.symbols r₁ s.inputs s.terms s.questions s.claims s.formulas [] None None)
-  formulas_next =
-      segment formula_record (λ done. stage b₁ s.symbols r₁ s.inputs s.terms s.questions s.claims done [] None None) (λ done x. refl) s.formulas
-      (λ done x more e. (formula_fits done (length done) x (named (length done) (Record.Formula x) (tested (λ n y. obeys_at s n (Record.Formula y)) s.formulas done x more e l.each.formulas)), refl))
-
-  choice_fits : (ks : List Choice) (n : ℕ) (x : Choice) → names s n (Record.Choice x) ≡ true → names (stage b₁ s.symbols r₁ s.inputs s.terms s.questions s.claims s.formulas ks None None) n (Record.Choice x) ≡ true
-  choice_fits ks n x h = grind arith
+  formulas_next = obeyed formula_record (λ done. stage b₁ s.symbols r₁ s.inputs s.terms s.questions s.claims done [] None None) (λ done x. refl) s.formulas l.each.formulas (λ done x h. (grind (arith, length-map s.bits bare_bit), refl))
 
   choices_next : Leads (stage b₁ s.symbols r₁ s.inputs s.terms s.questions s.claims s.formulas [] None None) (map choice_record s.choices) (stage b₁ s.symbols r₁ s.inputs s.terms s.questions s.claims s.formulas s.choices None None)
-  choices_next =
-      segment choice_record (λ done. stage b₁ s.symbols r₁ s.inputs s.terms s.questions s.claims s.formulas done None None) (λ done x. refl) s.choices
-      (λ done x more e. (choice_fits done (length done) x (named (length done) (Record.Choice x) (tested (λ n y. obeys_at s n (Record.Choice y)) s.choices done x more e l.each.choices)), refl))
+  choices_next = obeyed choice_record (λ done. stage b₁ s.symbols r₁ s.inputs s.terms s.questions s.claims s.formulas done None None) (λ done x. refl) s.choices l.each.choices (λ done x h. (grind arith, refl))
 
   -- the states in which next values are given
   abbrev things : List Bit → List Reading → Option ℕ → Option ℕ → System
@@ -187,18 +162,13 @@ module _ (s : System) (l : Lawful s) where
   bound_given : Leads (things s.bits s.readings s.invariant None) (given_record (λ h. Record.Bound h) s.bound) s
   bound_given = given_leads (λ h. Record.Bound h) (λ o. things s.bits s.readings s.invariant o) s.bound (λ h is. (refl, refl, refl))
 
-  -- all of them, from the last to the first
-  from_invariant : Leads (things s.bits s.readings None None) (given_record (λ f. Record.Invariant f) s.invariant ++ given_record (λ h. Record.Bound h) s.bound) s
-  from_invariant = leads_append _ _ _ _ _ invariant-given bound_given
-
-  from_next_values : Leads (things b₁ r₁ None None) (next_records (λ b. b.next) (λ k f. Record.NextBit k f) 0 s.bits ++ (next_records (λ r. r.next) (λ k c. Record.NextReading k c) 0 s.readings ++ (given_record (λ f. Record.Invariant f) s.invariant ++ given_record (λ h. Record.Bound h) s.bound))) s
-  from_next_values = leads_append _ _ _ _ _ bits_given (leads_append _ _ _ _ _ readings_given from_invariant)
-
-  from_questions : Leads (stage b₁ s.symbols r₁ s.inputs s.terms [] [] [] [] None None) (map question_record s.questions ++ (map claim_record s.claims ++ (map formula_record s.formulas ++ (map choice_record s.choices ++ (next_records (λ b. b.next) (λ k f. Record.NextBit k f) 0 s.bits ++ (next_records (λ r. r.next) (λ k c. Record.NextReading k c) 0 s.readings ++ (given_record (λ f. Record.Invariant f) s.invariant ++ given_record (λ h. Record.Bound h) s.bound))))))) s
-  from_questions = leads_append _ _ _ _ _ questions_next (leads_append _ _ _ _ _ claims_next (leads_append _ _ _ _ _ formulas_next (leads_append _ _ _ _ _ choices_next from_next_values)))
+  next_values : Leads (things b₁ r₁ None None) (next_records (λ b. b.next) (λ k f. Record.NextBit k f) 0 s.bits ++ (next_records (λ r. r.next) (λ k c. Record.NextReading k c) 0 s.readings ++ (given_record (λ f. Record.Invariant f) s.invariant ++ given_record (λ h. Record.Bound h) s.bound))) s
+  next_values = leads_append bits_given (leads_append readings_given (leads_append invariant-given bound_given))
 
   all_records : Leads nothing (records_of s) s
-  all_records = leads_append _ _ _ _ _ bits_first (leads_append _ _ _ _ _ symbols_next (leads_append _ _ _ _ _ readings_next (leads_append _ _ _ _ _ inputs_next (leads_append _ _ _ _ _ terms_next from_questions))))
+  all_records =
+      leads_append bits_first (leads_append symbols_next (leads_append readings_next (leads_append (inputs_from 0 s.inputs s.inputs (zero-add s.inputs))
+      (leads_append terms_next (leads_append questions_next (leads_append claims_next (leads_append formulas_next (leads_append choices_next next_values))))))))
 
   pub written_out_describes : WrittenAs (written_out s) s
   written_out_describes = record { records = records_of s; is = refl; order = all_records.order; describes = all_records.ends }
