@@ -12,7 +12,7 @@ use Rattle.reader.specs.Outcome.{Allowed, AllAllowed, FaultyAt, Stops, complete}
 use Rattle.reader.specs.Progress.{KindAt, NoKindAt, ReadTo, Ended}
 use Rattle.sheet.specs.System.{System, nothing, add, gather, describe}
 use Rattle.reader.specs.Drafts.{draft_of, Added}
-use Rattle.reader.proofs.Judgement.{Good, Refused, Says, kind_is, judge_says, obeys-keeps}
+use Rattle.reader.proofs.Judgement.{Good, Refused, Says, kind_is, judge_says}
 use Rattle.sheet.specs.Rules.{keeps}
 use Rattle.reader.specs.Decode.{judge}
 use Rattle.sheet.specs.Rules as Rules
@@ -61,7 +61,14 @@ module _ (bytes : List ℕ) (p : Place) (d : Draft) (xs : List Record) (h : Read
   pub no_kind : (f : SheetFault) → NoKindAt bytes p.byte f → FaultyAt bytes xs f p
   no_kind f n = faulty f (no_kind_stops f n)
 
-  module _ (k : Kind) (a : KindAt bytes p.byte k) (b : List ℕ) (is_b : b ≡ take (body_length k) (drop (p.byte + 1) bytes)) where
+  -- the body as the reader cuts it out, n bytes long
+  module _ (k : Kind) (a : KindAt bytes p.byte k) (n : ℕ) (is_n : n ≡ body_length k) where
+    abbrev b : List ℕ
+    b = take (p.byte + 1 + n - (p.byte + 1)) (drop (p.byte + 1) bytes)
+
+    is_b : b ≡ take (body_length k) (drop (p.byte + 1) bytes)
+    is_b = ap (λ m. take m (drop (p.byte + 1) bytes)) (omega (arith, is_n))
+
     after : List ℕ
     after = drop (p.byte + 1 + body_length k) bytes
 
@@ -97,12 +104,11 @@ module _ (bytes : List ℕ) (p : Place) (d : Draft) (xs : List Record) (h : Read
     pub good_at : (x : Record) → Ok x ≡ judge (draft_of d) k b → Good (draft_of d) k b x
     good_at x is = judged (Ok x) is
 
-    pub addable : (x : Record) → Good (draft_of d) k b x → keeps (draft_of d) x ≡ true
-    addable x g = obeys-keeps (draft_of d) x g.allowed.obeys
-
-    pub next : (x : Record) (d' : Draft) (xs' : List Record) (p' : Place) → Good (draft_of d) k b x → Added d x d' → xs' ≡ xs ++ x ∷ [] → p'.record ≡ p.record + 1 → p'.byte ≡ p.byte + 1 + body_length k → ReadTo bytes p' d' xs'
+    pub next : (x : Record) (d' : Draft) (xs' : List Record) (p' : Place) → Ok x ≡ judge (draft_of d) k b → Added d x d' → xs' ≡ xs ++ x ∷ [] → p'.record ≡ p.record + 1 → p'.byte ≡ p.byte + 1 + n → ReadTo bytes p' d' xs'
     unfolding after
-    next x d' xs' p' g added is-xs number at =
+    next x d' xs' p' is added is-xs number at' =
+        let g = good_at x is in
+        let at : p'.byte ≡ p.byte + 1 + body_length k = omega (arith, at', is_n) in
         let w : written_all xs' ≡ written_all xs ++ written x = ap written_all is-xs ∙ written_all-push xs x in
         let f : bytes ≡ written_all xs ++ (written x ++ drop p'.byte bytes) =
         h.front ∙ ap (λ l. written_all xs ++ l) (rest_is ∙ (ap (λ l. l ++ drop (p.byte + 1 + body_length k) bytes) (sym g.is) ∙ ap (λ n. written x ++ drop n bytes) (sym at))) in
@@ -124,7 +130,3 @@ module _ (bytes : List ℕ) (p : Place) (d : Draft) (xs : List Record) (h : Read
     pub ended : complete (draft_of d) ≡ true → length bytes ≤ p.byte + 1 → Ended bytes d xs
     ended has last =
         record { is = h.front ∙ ap (λ l. written_all xs ++ l) (end_is ∙ ap (λ l. letter Kind.End ∷ l) (drop_all (p.byte + 1) bytes last)); allowed = h.allowed; system = h.system; whole = has }
-
--- the body as the reader cuts it out
-pub body_taken : (bytes : List ℕ) (i m n : ℕ) → m ≡ n → take (i + m - i) (drop i bytes) ≡ take n (drop i bytes)
-body_taken bytes i m n e = ap (λ j. take j (drop i bytes)) (omega arith)
