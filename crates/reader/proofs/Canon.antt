@@ -18,7 +18,7 @@ use Rattle.reader.proofs.Orders.{from-given}
 use Rattle.reader.specs.Canonical.{bit_record, symbol_record, reading_record, term_record, question_record, claim_record, formula_record, choice_record, given_record, next_records, records_of, written_out}
 use Rattle.reader.specs.Law.{InOrder, WrittenAs}
 
-gather_append : (s : System) (xs ys : List Record) → gather s (xs ++ ys) ≡ gather (gather s xs) ys
+pub gather_append : (s : System) (xs ys : List Record) → gather s (xs ++ ys) ≡ gather (gather s xs) ys
 gather_append s [] ys = refl
 gather_append s (x ∷ xs) ys = gather_append (add s x) xs ys
 

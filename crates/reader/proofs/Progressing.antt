@@ -12,16 +12,13 @@ use Rattle.reader.specs.Outcome.{Allowed, AllAllowed, FaultyAt, Stops, complete}
 use Rattle.reader.specs.Progress.{KindAt, NoKindAt, ReadTo, Ended}
 use Rattle.sheet.specs.System.{System, nothing, add, gather, describe}
 use Rattle.reader.specs.Drafts.{draft_of, Added}
+use Rattle.reader.proofs.Canon.{gather_append}
 use Rattle.reader.proofs.Judgement.{Good, Refused, Says, kind_is, judge_says}
 use Rattle.sheet.specs.Rules.{keeps}
 use Rattle.reader.specs.Decode.{judge}
 use Rattle.sheet.specs.Rules as Rules
 
 -- one record more
-pub gather-push : (s : System) (xs : List Record) (x : Record) → gather s (xs ++ x ∷ []) ≡ add (gather s xs) x
-gather-push s [] x = refl
-gather-push s (y ∷ ys) x = gather-push (add s y) ys x
-
 pub allowed_push : (s : System) (xs : List Record) (x : Record) → AllAllowed s xs → Allowed (gather s xs) x → AllAllowed s (xs ++ x ∷ [])
 allowed_push s [] x h a = (a, tt)
 allowed_push s (y ∷ ys) x h a = (h.0, allowed_push (add s y) ys x h.1 a)
@@ -113,7 +110,7 @@ module _ (bytes : List ℕ) (p : Place) (d : Draft) (xs : List Record) (h : Read
         let f : bytes ≡ written_all xs ++ (written x ++ drop p'.byte bytes) =
         h.front ∙ ap (λ l. written_all xs ++ l) (rest_is ∙ (ap (λ l. l ++ drop (p.byte + 1 + body_length k) bytes) (sym g.is) ∙ ap (λ n. written x ++ drop n bytes) (sym at))) in
         let body : length (written x) ≡ body_length k + 1 = ap length g.is ∙ (let q = whole_b in omega arith) in
-        record { front = f ∙ (sym (append_assoc (written_all xs) (written x) (drop p'.byte bytes)) ∙ ap (λ l. l ++ drop p'.byte bytes) (sym w)); byte = omega (arith, h.byte, body, ap length w, length-append (written_all xs) (written x)); number = number ∙ (ap (λ n. n + 1) h.number ∙ (sym (length_push xs x) ∙ ap length (sym is-xs))); few = omega (arith, h.few); allowed = subst (AllAllowed nothing) (sym is-xs) (allowed_push nothing xs x h.allowed (subst (λ s. Allowed s x) h.system g.allowed)); system = added ∙ (ap (λ s. add s x) h.system ∙ (sym (gather-push nothing xs x) ∙ ap describe (sym is-xs))) }
+        record { front = f ∙ (sym (append_assoc (written_all xs) (written x) (drop p'.byte bytes)) ∙ ap (λ l. l ++ drop p'.byte bytes) (sym w)); byte = omega (arith, h.byte, body, ap length w, length-append (written_all xs) (written x)); number = number ∙ (ap (λ n. n + 1) h.number ∙ (sym (length_push xs x) ∙ ap length (sym is-xs))); few = omega (arith, h.few); allowed = subst (AllAllowed nothing) (sym is-xs) (allowed_push nothing xs x h.allowed (subst (λ s. Allowed s x) h.system g.allowed)); system = added ∙ (ap (λ s. add s x) h.system ∙ (sym (gather_append nothing xs (x ∷ [])) ∙ ap describe (sym is-xs))) }
 
   -- at the end record
   module _ (a : KindAt bytes p.byte Kind.End) where

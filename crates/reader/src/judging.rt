@@ -8,7 +8,7 @@ ghost use Rattle.sheet.specs.Rules.{no_info, plain, room, names, keeps, count, f
 ghost use Rattle.sheet.specs.System.{no_bit, no_reading};
 ghost use Rattle.reader.specs.Drafts.{draft_of};
 
-use crate::decode;
+use crate::decode::{decode_bit, decode_choice, decode_formula, decode_start, decode_term};
 use crate::draft::Draft;
 use fault::SheetFault;
 use sheet::{Args, Choice, Equation, Formula, FormulaInfo, Kind, Record, Start, Term, TermInfo};
@@ -51,23 +51,22 @@ impl Draft {
         ensures { result ≡ decoded (draft_of self.now) kind body.now }
     {
         match (kind, body) {
-            (Kind::Bit, &[start]) => decode::decode_bit(start).map(Record::Bit),
+            (Kind::Bit, &[start]) => decode_bit(start).map(Record::Bit),
             (Kind::Symbol, &[arity]) => Some(Record::Symbol(arity)),
-            (Kind::Reading, &[way, number]) => decode::decode_start(way, number).map(
-                Record::Reading,
-            ),
+            (Kind::Reading, &[way, number]) => decode_start(way, number).map(Record::Reading),
             (Kind::Input, _) => Some(Record::Input),
             (Kind::Term, &[_, symbol, ..]) => {
-                decode::decode_term(body, self.arity(symbol)).map(Record::Term)
+                decode_term(body, self.arity(symbol)).map(Record::Term)
             }
             (Kind::Question, &[left, right]) => Some(Record::Question(Equation { left, right })),
             (Kind::Claim, &[left, right]) => Some(Record::Claim(Equation { left, right })),
-            (Kind::Formula, _) => decode::decode_formula(body).map(Record::Formula),
-            (Kind::Choice, _) => decode::decode_choice(body).map(Record::Choice),
+            (Kind::Formula, _) => decode_formula(body).map(Record::Formula),
+            (Kind::Choice, _) => decode_choice(body).map(Record::Choice),
             (Kind::NextBit, &[bit, formula]) => Some(Record::NextBit(bit, formula)),
             (Kind::NextReading, &[reading, choice]) => Some(Record::NextReading(reading, choice)),
             (Kind::Invariant, &[formula]) => Some(Record::Invariant(formula)),
             (Kind::Bound, &[height]) => Some(Record::Bound(height)),
+            // The end record, since each body is as long as its kind asks for.
             _ => None,
         }
     }
