@@ -1,5 +1,5 @@
 -- What is read next is a function of the bytes, so the same bytes are read in one way.
-use Rattle.std.proofs.Common.{◌≡◌, ℕ, ◌<◌, true, false, cond, eqb, ltb, List, [], ◌∷◌, ◌++◌, length, take, drop, Some, None, Ok, Err, Option, Result, sym, refl, ap, ◌∙◌, subst, ap₂, inl, inr, append_assoc, arith, length-append}
+use Rattle.std.proofs.Common.{◌≡◌, ℕ, ◌<◌, true, false, cond, eqb, ltb, List, [], ◌∷◌, ◌++◌, length, take, drop, Some, None, Ok, Err, Option, Result, sym, refl, ap, ◌∙◌, subst, inl, inr, append_assoc, arith, length-append}
 use Rattle.std.proofs.lemmas.Bool.Decides.{nat_tests}
 use Rattle.std.proofs.lemmas.List.{append_cancel_left, take_at, drop_at}
 use Rattle.fault.specs.declared.Place.{Place}
@@ -7,7 +7,7 @@ use Rattle.fault.specs.declared.SheetFault.{SheetFault}
 use Rattle.fault.specs.declared.SheetFault.TheVariants.{Truncated, UnknownLetter, BadBody, TooMany, Repeated, Incomplete, TrailingBytes}
 use Rattle.sheet.specs.declared.kind.Kind.{Kind}
 use Rattle.sheet.specs.declared.syntax.Record.{Record}
-use Rattle.reader.specs.Decode.{decoded, judged, judge}
+use Rattle.reader.specs.Decode.{decoded, judge}
 use Rattle.reader.specs.Outcome.{Allowed, AllAllowed, complete, Stops, FaultyAt}
 use Rattle.sheet.specs.Format.{letter, body_length, kind_of, body_of, written, written_all}
 use Rattle.sheet.specs.Rules.{room, obeys, fresh}
@@ -57,19 +57,17 @@ module _ (s : System) where
   lettered k more = ap (of_kind s more) (kind_at_letter k)
 
   cut : (k : Kind) (body : List ℕ) → length body < body_length k → verdict s (letter k ∷ body) ≡ Err (Some Truncated)
-  cut k body h =
-      let t : ltb (length body) (body_length k) ≡ true = grind (arith, nat_tests) in
-      lettered k body ∙ ap (λ b. cond b (Err (Some Truncated)) (of_whole s k (take (body_length k) body) (drop (body_length k) body))) t
+  cut k body h = lettered k body ∙ grind (arith, nat_tests)
 
   whole : (k : Kind) (body more : List ℕ) → length body ≡ body_length k → verdict s (letter k ∷ (body ++ more)) ≡ of_whole s k body more
   whole k body more n =
-      let t : ltb (length (body ++ more)) (body_length k) ≡ false = grind (arith, nat_tests, length-append body more) in
-      lettered k (body ++ more)
-      ∙ ap (λ b. cond b (Err (Some Truncated)) (of_whole s k (take (body_length k) (body ++ more)) (drop (body_length k) (body ++ more)))) t
-      ∙ ap₂ (of_whole s k) (take_at body more (body_length k) n) (drop_at body more (body_length k) n)
+      let long = length-append body more in
+      let front = take_at body more (body_length k) n in
+      let rest = drop_at body more (body_length k) n in
+      lettered k (body ++ more) ∙ grind (arith, nat_tests)
 
   inside : (k : Kind) (body more : List ℕ) → length body ≡ body_length k → eqb (letter k) 69 ≡ false → verdict s (letter k ∷ (body ++ more)) ≡ of_judged (judge s k body)
-  inside k body more n e = whole k body more n ∙ ap (λ b. cond b (cond (complete s) (of_rest more) (Err (Some Incomplete))) (of_judged (judge s k body))) e
+  inside k body more n e = whole k body more n ∙ rw e refl
 
   obeying : (x : Record) (more : List ℕ) → room s (kind_of x) ≡ true → obeys s x ≡ true → verdict s (written x ++ more) ≡ cond (fresh s x) (Ok x) (Err (Some Repeated))
   obeying x more r o =
@@ -88,18 +86,16 @@ module _ (s : System) where
   stopped rest Truncated (inr t) = ap (verdict s) t.is ∙ cut t.kind t.body t.short
   stopped rest UnknownLetter t = ap (verdict s) t.is ∙ ap (of_kind s t.more) (unknown t.byte t.none)
   stopped rest BadBody t = ap (verdict s) t.is ∙ inside t.kind t.body t.more t.whole (not_69 t.kind t.inside) ∙ ap of_judged (unlawful t.kind t.body t.whole t.room t.none)
-  stopped rest TooMany t =
-      let inside-kind : t.kind ≡ Kind.End → ⊥ = λ e. let full = t.room in grind arith in
-      ap (verdict s) t.is ∙ inside t.kind t.body t.more t.whole (not_69 t.kind inside-kind) ∙ ap (λ b. of_judged (cond b (judged s (decoded s t.kind t.body)) (Err TooMany))) t.room
-  stopped rest Repeated t = ap (verdict s) t.is ∙ obeying t.what t.more t.room t.obeys ∙ ap (λ b. cond b (Ok t.what) (Err (Some Repeated))) t.stale
-  stopped rest Incomplete t = ap (verdict s) t.is ∙ whole Kind.End [] t.more refl ∙ ap (λ b. cond b (of_rest t.more) (Err (Some Incomplete))) t.lacks
-  stopped rest TrailingBytes t = ap (verdict s) t.is ∙ whole Kind.End [] (t.byte ∷ t.more) refl ∙ ap (λ b. cond b (Err (Some TrailingBytes)) (Err (Some Incomplete))) t.has
+  stopped rest TooMany t = ap (verdict s) t.is ∙ inside t.kind t.body t.more t.whole (not_69 t.kind (λ e. let full = t.room in grind arith)) ∙ rw t.room refl
+  stopped rest Repeated t = ap (verdict s) t.is ∙ obeying t.what t.more t.room t.obeys ∙ rw t.stale refl
+  stopped rest Incomplete t = ap (verdict s) t.is ∙ whole Kind.End [] t.more refl ∙ rw t.lacks refl
+  stopped rest TrailingBytes t = ap (verdict s) t.is ∙ whole Kind.End [] (t.byte ∷ t.more) refl ∙ rw t.has refl
 
   pub ended : complete s ≡ true → verdict s (letter Kind.End ∷ []) ≡ Err None
-  ended c = ap (λ b. cond b (Err None) (Err (Some Incomplete))) c
+  ended c = rw c refl
 
   goes_on : (x : Record) (more : List ℕ) → Allowed s x → verdict s (written x ++ more) ≡ Ok x
-  goes_on x more a = obeying x more a.room a.obeys ∙ ap (λ b. cond b (Ok x) (Err (Some Repeated))) a.fresh
+  goes_on x more a = obeying x more a.room a.obeys ∙ rw a.fresh refl
 
 -- the records that are read from the bytes, and then the fault, or none
 pub record Reading (s : System) (bytes : List ℕ) (xs : List Record) (v : Option SheetFault) : Type 0 where
