@@ -1,5 +1,5 @@
 -- The bytes that say something are just those that a record is written as.
-use Rattle.std.proofs.Common.{◌≡◌, ℕ, true, cond, eqb, List, [], ◌∷◌, length, get_or, Some, None, Option, sym, refl, ap, ◌∙◌, arith}
+use Rattle.std.proofs.Common.{◌≡◌, ℕ, zero, suc, true, cond, eqb, List, [], ◌∷◌, length, get_or, Some, None, Option, sym, refl, ap, ◌∙◌, arith}
 use Rattle.std.proofs.lemmas.Bool.Decides.{nat_tests}
 use Rattle.sheet.specs.declared.kind.Kind.{Kind}
 use Rattle.sheet.specs.declared.syntax.Record.{Record}
@@ -9,45 +9,34 @@ use Rattle.sheet.specs.Rules.{keeps}
 use Rattle.sheet.specs.System.{System}
 use Rattle.sheet.specs.Format.{letter, body_length, kind_of, body_of, written}
 
+-- n elements from the place i on
+abbrev from : ℕ → ℕ → List ℕ → List ℕ
+from i zero b = []
+from i (suc n) b = get_or b i 0 ∷ from (suc i) n b
+
+from-later : (x : ℕ) (xs : List ℕ) (i n : ℕ) → from (suc i) n (x ∷ xs) ≡ from i n xs
+from-later x xs i zero = refl
+from-later x xs i (suc n) = ap (λ l. get_or xs i 0 ∷ l) (from-later x xs (suc i) n)
+
 -- a list of a known length, by its elements
-exact0 : (b : List ℕ) → length b ≡ 0 → b ≡ []
-exact0 [] e = refl
-exact0 (x ∷ xs) e = absurd (omega arith)
-
-exact1 : (b : List ℕ) → length b ≡ 1 → b ≡ get_or b 0 0 ∷ []
-exact1 [] e = absurd (omega arith)
-exact1 (x ∷ xs) e = ap (λ l. x ∷ l) (exact0 xs (omega arith))
-
-exact2 : (b : List ℕ) → length b ≡ 2 → b ≡ get_or b 0 0 ∷ get_or b 1 0 ∷ []
-exact2 [] e = absurd (omega arith)
-exact2 (x ∷ xs) e = ap (λ l. x ∷ l) (exact1 xs (omega arith))
-
-exact3 : (b : List ℕ) → length b ≡ 3 → b ≡ get_or b 0 0 ∷ get_or b 1 0 ∷ get_or b 2 0 ∷ []
-exact3 [] e = absurd (omega arith)
-exact3 (x ∷ xs) e = ap (λ l. x ∷ l) (exact2 xs (omega arith))
-
-exact4 : (b : List ℕ) → length b ≡ 4 → b ≡ get_or b 0 0 ∷ get_or b 1 0 ∷ get_or b 2 0 ∷ get_or b 3 0 ∷ []
-exact4 [] e = absurd (omega arith)
-exact4 (x ∷ xs) e = ap (λ l. x ∷ l) (exact3 xs (omega arith))
-
-exact5 : (b : List ℕ) → length b ≡ 5 → b ≡ get_or b 0 0 ∷ get_or b 1 0 ∷ get_or b 2 0 ∷ get_or b 3 0 ∷ get_or b 4 0 ∷ []
-exact5 [] e = absurd (omega arith)
-exact5 (x ∷ xs) e = ap (λ l. x ∷ l) (exact4 xs (omega arith))
+exact : (b : List ℕ) (n : ℕ) → length b ≡ n → b ≡ from 0 n b
+exact [] n e = rw (sym e) refl
+exact (x ∷ xs) n e = rw (sym e) (ap (λ l. x ∷ l) (exact xs (length xs) refl ∙ sym (from-later x xs 0 (length xs))))
 
 pub decode_writes : (s : System) (k : Kind) (b : List ℕ) (x : Record) → length b ≡ body_length k → decoded s k b ≡ Some x → written x ≡ letter k ∷ b
-decode_writes s Kind.Bit b x n e = grind (arith, nat_tests, exact1 b n)
-decode_writes s Kind.Symbol b x n e = grind (arith, exact1 b n)
-decode_writes s Kind.Reading b x n e = grind (arith, nat_tests, exact2 b n)
-decode_writes s Kind.Input b x n e = grind (arith, exact0 b n)
-decode_writes s Kind.Term b x n e = grind (arith, nat_tests, exact5 b n)
-decode_writes s Kind.Question b x n e = grind (arith, exact2 b n)
-decode_writes s Kind.Claim b x n e = grind (arith, exact2 b n)
-decode_writes s Kind.Formula b x n e = grind (arith, nat_tests, exact3 b n)
-decode_writes s Kind.Choice b x n e = grind (arith, nat_tests, exact4 b n)
-decode_writes s Kind.NextBit b x n e = grind (arith, exact2 b n)
-decode_writes s Kind.NextReading b x n e = grind (arith, exact2 b n)
-decode_writes s Kind.Invariant b x n e = grind (arith, exact1 b n)
-decode_writes s Kind.Bound b x n e = grind (arith, exact1 b n)
+decode_writes s Kind.Bit b x n e = grind (arith, nat_tests, exact b 1 n)
+decode_writes s Kind.Symbol b x n e = grind (arith, exact b 1 n)
+decode_writes s Kind.Reading b x n e = grind (arith, nat_tests, exact b 2 n)
+decode_writes s Kind.Input b x n e = grind (arith, exact b 0 n)
+decode_writes s Kind.Term b x n e = grind (arith, nat_tests, exact b 5 n)
+decode_writes s Kind.Question b x n e = grind (arith, exact b 2 n)
+decode_writes s Kind.Claim b x n e = grind (arith, exact b 2 n)
+decode_writes s Kind.Formula b x n e = grind (arith, nat_tests, exact b 3 n)
+decode_writes s Kind.Choice b x n e = grind (arith, nat_tests, exact b 4 n)
+decode_writes s Kind.NextBit b x n e = grind (arith, exact b 2 n)
+decode_writes s Kind.NextReading b x n e = grind (arith, exact b 2 n)
+decode_writes s Kind.Invariant b x n e = grind (arith, exact b 1 n)
+decode_writes s Kind.Bound b x n e = grind (arith, exact b 1 n)
 decode_writes s Kind.End b x n e = grind arith
 
 pub decoded_body : (s : System) (x : Record) → keeps s x ≡ true → decoded s (kind_of x) (body_of x) ≡ Some x
