@@ -171,7 +171,7 @@ impl Draft {
         self.parts.bits.get(bit as usize).and_then(|bit| bit.next)
     }
 
-    // Beside `bit_next`: a field of the same name, of another type.
+    // Beside `bit_next`: a field of the same name in another struct.
     fn reading_next(&self, reading: u8) -> Option<u8>
         ensures { result ≡ (get_or self.now.parts.readings.items reading no_reading).next }
     {
