@@ -1,5 +1,5 @@
 //! From the bytes of a body to what they say. Only bytes that a record can be written as say anything.
-ghost use Rattle.std.specs.Prelude.{◌≡◌, length, slice_index};
+ghost use Rattle.std.specs.Prelude.{◌≡◌, slice_index};
 ghost use Rattle.reader.specs.Decode.{bit_of, start_of, args_of, term_of, formula_of, choice_of};
 
 use sheet::{Args, Choice, Formula, Start, Term};
@@ -37,11 +37,10 @@ fn decode_args(arity: u8, args: [u8; 3]) -> Option<Args>
     }
 }
 
-pub(crate) fn decode_term(body: &[u8], arity: u8) -> Option<Term>
-    requires { length body.now ≡ 5 }
-    ensures { result ≡ term_of (slice_index body.now 0) (slice_index body.now 1) (slice_index body.now 2) (slice_index body.now 3) (slice_index body.now 4) arity }
+pub(crate) fn decode_term(body: [u8; 5], arity: u8) -> Option<Term>
+    ensures { result ≡ term_of (slice_index body 0) (slice_index body 1) (slice_index body 2) (slice_index body 3) (slice_index body 4) arity }
 {
-    match *body {
+    match body {
         [0, reading, 0, 0, 0] => Some(Term::Reading(reading)),
         [1, input, 0, 0, 0] => Some(Term::Input(input)),
         [2, symbol, a, b, c] => decode_args(arity, [a, b, c]).map(|args| Term::Apply(symbol, args)),
@@ -49,11 +48,10 @@ pub(crate) fn decode_term(body: &[u8], arity: u8) -> Option<Term>
     }
 }
 
-pub(crate) fn decode_formula(body: &[u8]) -> Option<Formula>
-    requires { length body.now ≡ 3 }
-    ensures { result ≡ formula_of (slice_index body.now 0) (slice_index body.now 1) (slice_index body.now 2) }
+pub(crate) fn decode_formula(body: [u8; 3]) -> Option<Formula>
+    ensures { result ≡ formula_of (slice_index body 0) (slice_index body 1) (slice_index body 2) }
 {
-    match *body {
+    match body {
         [0, 0, 0] => Some(Formula::True),
         [1, bit, 0] => Some(Formula::Bit(bit)),
         [2, question, 0] => Some(Formula::Question(question)),
@@ -65,11 +63,10 @@ pub(crate) fn decode_formula(body: &[u8]) -> Option<Formula>
     }
 }
 
-pub(crate) fn decode_choice(body: &[u8]) -> Option<Choice>
-    requires { length body.now ≡ 4 }
-    ensures { result ≡ choice_of (slice_index body.now 0) (slice_index body.now 1) (slice_index body.now 2) (slice_index body.now 3) }
+pub(crate) fn decode_choice(body: [u8; 4]) -> Option<Choice>
+    ensures { result ≡ choice_of (slice_index body 0) (slice_index body 1) (slice_index body 2) (slice_index body 3) }
 {
-    match *body {
+    match body {
         [0, term, 0, 0] => Some(Choice::Term(term)),
         [1, formula, a, b] => Some(Choice::If(formula, a, b)),
         _ => None,

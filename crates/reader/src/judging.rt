@@ -55,13 +55,15 @@ impl Draft {
             (Kind::Symbol, &[arity]) => Some(Record::Symbol(arity)),
             (Kind::Reading, &[way, number]) => decode_start(way, number).map(Record::Reading),
             (Kind::Input, _) => Some(Record::Input),
-            (Kind::Term, &[_, symbol, ..]) => {
-                decode_term(body, self.arity(symbol)).map(Record::Term)
+            (Kind::Term, &[way, number, a, b, c]) => {
+                decode_term([way, number, a, b, c], self.arity(number)).map(Record::Term)
             }
             (Kind::Question, &[left, right]) => Some(Record::Question(Equation { left, right })),
             (Kind::Claim, &[left, right]) => Some(Record::Claim(Equation { left, right })),
-            (Kind::Formula, _) => decode_formula(body).map(Record::Formula),
-            (Kind::Choice, _) => decode_choice(body).map(Record::Choice),
+            (Kind::Formula, &[way, a, b]) => decode_formula([way, a, b]).map(Record::Formula),
+            (Kind::Choice, &[way, a, b, c]) => {
+                decode_choice([way, a, b, c]).map(Record::Choice)
+            },
             (Kind::NextBit, &[bit, formula]) => Some(Record::NextBit(bit, formula)),
             (Kind::NextReading, &[reading, choice]) => Some(Record::NextReading(reading, choice)),
             (Kind::Invariant, &[formula]) => Some(Record::Invariant(formula)),
