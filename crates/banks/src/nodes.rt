@@ -37,8 +37,8 @@ impl<'a> Nodes<'a> {
     }
 
     /// A place with the node.
-    // The walk is like that of `closure`'s table, which compares by labels: one for both would have to be public and
-    // ask its callers for chains that go down, and public calls ask nothing.
+    // The walk is like that of `closure`'s table, which compares by labels. A walk for both would be public and take the
+    // test as a closure, and that the closure may be called would be a `requires` of it; public calls ask nothing.
     fn find(&self, node: Node) -> Option<usize>
         ensures { MatchOption result (Lacks self.now.bank.now self.now.used node) (λ j. (j < self.now.used) × (node_at self.now.bank.now j ≡ node)) }
     {

@@ -2,7 +2,6 @@
 use Rattle.std.proofs.Common.{◌≡◌, ℕ, zero, suc, ◌<◌, Bool, true, false, eqb, ltb, List, [], ◌∷◌, ◌++◌, map, length, get_or, take, Some, None, Option, sym, refl, ap, ◌∙◌, ap₂, ⊎_elim, arith}
 use Rattle.std.proofs.lemmas.List.{get_or_past}
 use Rattle.std.proofs.lemmas.Bool.Decides.{leb_tells}
-use Rattle.sheet.specs.declared.syntax.Choice.{Choice}
 use Rattle.sheet.specs.declared.syntax.Equation.{Equation}
 use Rattle.sheet.specs.declared.syntax.Formula.{Formula}
 use Rattle.sheet.specs.declared.syntax.Term.{Term}
@@ -11,7 +10,7 @@ use Rattle.sheet.specs.Grow.{grow}
 use Rattle.sheet.specs.Lawful.{each_at}
 use Rattle.sheet.specs.Rules.{no_info, input_at, term_info, term_infos}
 use Rattle.sheet.specs.Runs.{or_kept, numbered}
-use Rattle.sheet.specs.Truth.{Meaning, term_value, term_values, equal, answers, truth_of, truths, term_of_choice, chosen}
+use Rattle.sheet.specs.Truth.{Meaning, term_value, term_values, equal, answers, truth_of, truths}
 use Rattle.sheet.proofs.Eaches.{left_true, right_true}
 use Rattle.sheet.proofs.Growing.{grow_at, grow-length}
 use Rattle.bench.specs.Outcome.{Same}
@@ -61,13 +60,6 @@ module _ (bs cs qs rs ks ls : List Bool) (hb : Same false bs cs) (hq : Same fals
 
   pub truths-same : (fs : List Formula) → truths bs qs ks fs ≡ truths cs rs ls fs
   truths-same fs = grow-same (truth_of bs qs ks) (truth_of cs rs ls) truth_same [] fs
-
-choice_same : (t u : ℕ → Bool) → ((f : ℕ) → t f ≡ u f) → (seen : List ℕ) (k : Choice) → term_of_choice t seen k ≡ term_of_choice u seen k
-choice_same t u h seen (Choice.Term x) = refl
-choice_same t u h seen (Choice.If f a b) = rw (h f)
-
-pub chosen-same : (t u : ℕ → Bool) → ((f : ℕ) → t f ≡ u f) → (ks : List Choice) → chosen t ks ≡ chosen u ks
-chosen-same t u h ks = grow-same (term_of_choice t) (term_of_choice u) (choice_same t u h) [] ks
 
 pub not_due : (x : Bool) → Due false x → x ≡ false
 not_due true d = sym (d refl)

@@ -4,19 +4,19 @@ use Rattle.sheet.specs.declared.syntax.Bit.{Bit}
 use Rattle.sheet.specs.declared.syntax.Equation.{Equation}
 use Rattle.sheet.specs.declared.syntax.Reading.{Reading}
 use Rattle.sheet.specs.declared.syntax.Record.{Record}
-use Rattle.sheet.specs.Lawful.{Few}
+use Rattle.sheet.specs.Lawful.{Lawful}
 use Rattle.sheet.specs.Rules.{obeys_at, contains_input, input_at, term_infos}
 use Rattle.sheet.specs.Runs.{Configuration, or_kept, numbered, step, step_values, step_truths, step_chosen, next_bit, next_reading}
 use Rattle.sheet.specs.System.{System}
-use Rattle.sheet.specs.Truth.{Meaning, term_value, term_values, equal, answers, truth_of, truths, term_of_choice, chosen}
+use Rattle.sheet.specs.Truth.{Meaning, term_value, term_values, equal, answers, truths, chosen}
+use Rattle.sheet.proofs.Arrays.{filled_all}
 use Rattle.sheet.proofs.Eaches.{left_true, right_true}
 use Rattle.sheet.proofs.Growing.{grow-length}
 use Rattle.bench.specs.declared.configuration.Configuration.{Configuration as Place}
-use Rattle.bench.specs.Outcome.{Same, Holds, Runnable}
+use Rattle.bench.specs.Outcome.{Same, Holds}
 use Rattle.bench.specs.Values.{Known}
 use Rattle.bench.proofs.Evaluating.{unlike}
-use Rattle.bench.proofs.Filling.{Filled, filled-same}
-use Rattle.bench.proofs.Agreeing.{numbered-same, or_kept_same, values_same, answers-same, truths-same, chosen-same, not_due, plain-same, map_each}
+use Rattle.bench.proofs.Agreeing.{numbered-same, or_kept_same, values_same, answers-same, truths-same, not_due, plain-same, map_each}
 
 within : (a b : ℕ) → leb a b ≡ true → a ≤ b
 within a b e = leb-true a b e
@@ -26,10 +26,10 @@ not-true true e = sym e
 not-true false e = refl
 
 -- claims are over terms without inputs
-module _ (s : System) (run : Runnable s) (all values : List ℕ) (lv : length values ≡ 64) (known : Known false s.terms all values) where
+module _ (s : System) (law : Lawful s) (all values : List ℕ) (lv : length values ≡ 64) (known : Known false s.terms all values) where
   claim_value : (t : ℕ) → t < length s.terms → contains_input s t ≡ false → get_or values t 0 ≡ get_or all t 0
   claim_value t h e =
-      let few = within (length s.terms) 64 run.few.terms in
+      let few = within (length s.terms) 64 law.few.terms in
       known t (omega (arith, few)) (λ q. unlike (sym e ∙ q))
 
   claim_same : (n : ℕ) (e : Equation) → obeys_at s n (Record.Claim e) ≡ true → equal values e ≡ equal all e
@@ -43,13 +43,13 @@ module _ (s : System) (run : Runnable s) (all values : List ℕ) (lv : length va
       ap₂ eqb (claim_value e.left (ltb-true e.left (length s.terms) (left_true a b named)) (not-true (contains_input s e.left) (left_true x y plain))) (claim_value e.right (ltb-true e.right (length s.terms) (right_true a b named)) (not-true (contains_input s e.right) (right_true x y plain)))
 
   claims_same : answers values s.claims ≡ answers all s.claims
-  claims_same = map_each (λ n e. obeys_at s n (Record.Claim e)) (equal values) (equal all) claim_same 0 s.claims run.claims
+  claims_same = map_each (λ n e. obeys_at s n (Record.Claim e)) (equal values) (equal all) claim_same 0 s.claims law.each.claims
 
 -- the judgement
-pub judged : (m : Meaning) (s : System) (place : Place) (c : Configuration) (claims : List Bool) (values : List ℕ) (f : ℕ) (r : Bool) → Runnable s → Holds place c → length values ≡ 64 → Known false s.terms (term_values m place.readings [] s.terms) values → Same false claims (answers values s.claims) → r ≡ get_or (truths place.bits [] claims s.formulas) f false → r ≡ get_or (truths c.bits [] (answers (term_values m c.readings [] s.terms) s.claims) s.formulas) f false
-judged m s place c claims values f r run holds lv known same is =
+pub judged : (m : Meaning) (s : System) (place : Place) (c : Configuration) (claims : List Bool) (values : List ℕ) (f : ℕ) (r : Bool) → Lawful s → Holds place c → length values ≡ 64 → Known false s.terms (term_values m place.readings [] s.terms) values → Same false claims (answers values s.claims) → r ≡ get_or (truths place.bits [] claims s.formulas) f false → r ≡ get_or (truths c.bits [] (answers (term_values m c.readings [] s.terms) s.claims) s.formulas) f false
+judged m s place c claims values f r law holds lv known same is =
     let all = term_values m place.readings [] s.terms in
-    let claims_are : answers values s.claims ≡ answers (term_values m c.readings [] s.terms) s.claims = claims_same s run all values lv known ∙ ap (λ v. answers v s.claims) (values_same m place.readings c.readings [] holds.readings s.terms) in
+    let claims_are : answers values s.claims ≡ answers (term_values m c.readings [] s.terms) s.claims = claims_same s law all values lv known ∙ ap (λ v. answers v s.claims) (values_same m place.readings c.readings [] holds.readings s.terms) in
     let ok : Same false claims (answers (term_values m c.readings [] s.terms) s.claims) = λ k. same k ∙ ap (λ l. get_or l k false) claims_are in
     is ∙ ap (λ l. get_or l f false) (truths-same place.bits c.bits [] [] claims (answers (term_values m c.readings [] s.terms) s.claims) holds.bits (λ k. refl) ok s.formulas)
 
@@ -59,23 +59,26 @@ known_with m s readings inputs values known k h due =
     known k h due ∙ plain-same m readings [] inputs s.terms k (not_due (input_at (term_infos s.terms) k) due)
 
 -- the step
-module _ (m : Meaning) (s : System) (place : Place) (c : Configuration) (inputs : List ℕ) (few : Few s) (holds : Holds place c) (values : List ℕ) (lv : length values ≡ 64) (known : Known true s.terms (term_values m place.readings inputs s.terms) values) where
+module _ (m : Meaning) (s : System) (place : Place) (c : Configuration) (inputs : List ℕ) (law : Lawful s) (holds : Holds place c) (values : List ℕ) (lv : length values ≡ 64) (known : Known true s.terms (term_values m place.readings inputs s.terms) values) where
   values_are : Same 0 values (step_values m s c inputs)
   values_are k =
-      filled-same 0 values (term_values m place.readings inputs s.terms) (λ j h. known j h (λ _. refl)) (omega (arith, within (length s.terms) 64 few.terms, grow-length (term_value m place.readings inputs) [] s.terms)) k ∙ ap (λ l. get_or l k 0) (values_same m place.readings c.readings inputs holds.readings s.terms)
+      filled_all 0 values (term_values m place.readings inputs s.terms) (λ j h. known j h (λ _. refl)) (omega (arith, within (length s.terms) 64 law.few.terms, grow-length (term_value m place.readings inputs) [] s.terms)) k ∙ ap (λ l. get_or l k 0) (values_same m place.readings c.readings inputs holds.readings s.terms)
 
-  module _ (questions ts : List Bool) (ks : List ℕ) (fq : Same false questions (answers values s.questions)) (lt : length ts ≡ 64) (ft : Filled false ts (truths place.bits questions [] s.formulas)) (lk : length ks ≡ 64) (fk : Filled 0 ks (chosen (λ f. get_or ts f false) s.choices)) where
+  module _ (questions ts : List Bool) (ks : List ℕ) (fq : Same false questions (answers values s.questions)) (ft : Same false ts (truths place.bits questions [] s.formulas)) (fk : Same 0 ks (chosen (λ f. get_or (truths place.bits questions [] s.formulas) f false) s.choices)) where
     questions_are : Same false questions (answers (step_values m s c inputs) s.questions)
     questions_are k =
         fq k ∙ ap (λ l. get_or l k false) (answers-same values (step_values m s c inputs) values_are s.questions)
 
+    right_are : truths place.bits questions [] s.formulas ≡ step_truths m s c inputs
+    right_are =
+        truths-same place.bits c.bits questions (answers (step_values m s c inputs) s.questions) [] [] holds.bits questions_are (λ j. refl) s.formulas
+
     truths_are : Same false ts (step_truths m s c inputs)
-    truths_are k =
-        filled-same false ts (truths place.bits questions [] s.formulas) ft (omega (arith, within (length s.formulas) 64 few.formulas, grow-length (truth_of place.bits questions []) [] s.formulas)) k ∙ ap (λ l. get_or l k false) (truths-same place.bits c.bits questions (answers (step_values m s c inputs) s.questions) [] [] holds.bits questions_are (λ j. refl) s.formulas)
+    truths_are k = ft k ∙ ap (λ l. get_or l k false) right_are
 
     chosen_are : Same 0 ks (step_chosen m s c inputs)
     chosen_are k =
-        filled-same 0 ks (chosen (λ f. get_or ts f false) s.choices) fk (omega (arith, within (length s.choices) 64 few.choices, grow-length (term_of_choice (λ f. get_or ts f false)) [] s.choices)) k ∙ ap (λ l. get_or l k 0) (chosen-same (λ f. get_or ts f false) (λ f. get_or (step_truths m s c inputs) f false) truths_are s.choices)
+        fk k ∙ ap (λ (l : List Bool). get_or (chosen (λ f. get_or l f false) s.choices) k 0) right_are
 
     pub stepped : (next : Place) → Same false next.bits (numbered (λ n b. or_kept (λ f. get_or ts f false) (get_or place.bits n false) b.next) 0 s.bits) → Same 0 next.readings (numbered (λ n r. or_kept (λ k. get_or values (get_or ks k 0) 0) (get_or place.readings n 0) r.next) 0 s.readings) → Holds next (step m s c inputs)
     stepped next fb fr =

@@ -5,17 +5,9 @@ use Rattle.std.proofs.lemmas.List.{get_or-take, get_or_past}
 use Rattle.bench.specs.Outcome.{Same}
 use Rattle.bench.proofs.Evaluating.{set_more}
 
--- each place has the value of its number, and past the values the default
-abbrev pub Filled : {V : Type 0} → V → List V → List V → Type 0
-Filled d out values = (k : ℕ) → k < length out → get_or out k d ≡ get_or values k d
-
 -- one place more
 pub filled_more : {V : Type 0} (d : V) (out values : List V) (k : ℕ) (v : V) → k < length out → v ≡ get_or values k d → ((j : ℕ) → j < k → get_or out j d ≡ get_or values j d) → (j : ℕ) → j < k + 1 → get_or (set out k v) j d ≡ get_or values j d
 filled_more d out values k v inside is old j h = set_more (λ (j : ℕ) x. x ≡ get_or values j d) out k v d inside is j (old j) h
-
--- all places are filled, and past them there is nothing
-pub filled-same : {V : Type 0} (d : V) (out values : List V) → Filled d out values → length values ≤ length out → Same d out values
-filled-same d out values h l k = ⊎_elim (λ lt. h k lt) (λ ge. get_or_past out k d ge ∙ sym (get_or_past values k d (omega arith))) (cases_lt k (length out))
 
 -- values, and then the default
 pub begins_same : {V : Type 0} (d : V) (out values : List V) (m : ℕ) → m ≡ length values → (take m out ≡ values) × ((k : ℕ) → m ≤ k → get_or out k d ≡ d) → Same d out values

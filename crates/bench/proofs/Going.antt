@@ -1,14 +1,11 @@
 -- A run, configuration by configuration.
-use Rattle.std.proofs.Common.{◌≡◌, ℕ, suc, ◌+◌, ◌<◌, ◌≤◌, Bool, true, false, eqb, List, length, Some, None, sym, ap, ◌∙◌, ap₂, subst, ⊎_elim, add-one, arith, below_more, leb-true}
-use mathlib.Core.Bool.{Bool-set}
-use mathlib.Core.Logic.{∥∥₁_elim}
+use Rattle.std.proofs.Common.{◌≡◌, ℕ, suc, ◌+◌, ◌<◌, ◌≤◌, Bool, true, false, eqb, List, Some, None, sym, ap, ◌∙◌, ap₂, subst, ⊎_elim, add-one, arith, below_more}
 use Rattle.std.proofs.lemmas.Bool.Decides.{eqb_tells}
 use Rattle.sheet.specs.Runs.{Configuration, step, inputs_of, after, invariant_holds}
-use Rattle.sheet.specs.Lawful.{Lawful}
 use Rattle.sheet.specs.System.{System}
 use Rattle.sheet.specs.Truth.{Meaning}
 use Rattle.bench.specs.declared.configuration.Configuration.{Configuration as Place}
-use Rattle.bench.specs.Outcome.{Holds, Ran, Runnable}
+use Rattle.bench.specs.Outcome.{Holds, Ran}
 
 -- configuration i is at the place, and none before it breaks the invariant
 pub record Reached (m : Meaning) (s : System) (starts inputs : List ℕ) (i : ℕ) (place : Place) : Type 0 where
@@ -38,25 +35,3 @@ module _ (m : Meaning) (s : System) (starts inputs : List ℕ) where
     pub ran_none : (n : ℕ) → n ≡ i → r ≡ true → Ran m s starts inputs n None now
     ran_none n e t =
         rw e (record { first = λ j h. ⊎_elim (λ (q : (eqb j i ≡ true) × (j ≡ i)). ap (λ k. invariant_holds m s (after m s starts inputs k)) q.1 ∙ (sym judged ∙ t)) (λ (q : (eqb j i ≡ false) × (j ≡ i → ⊥)). at.before j (omega (arith, q.1))) (eqb_tells j i); last = still })
-
--- what a run leans on, of a lawful sheet
-module _ (s : System) (lawful : ∥ Lawful s ∥₁) where
-  of : (x : Bool) → (Lawful s → x ≡ true) → x ≡ true
-  of x f = ∥∥₁_elim lawful (Bool-set x true) f
-
-  pub runnable : Runnable s
-  runnable =
-      record {
-        few = record { bits = of _ (λ l. l.few.bits); symbols = of _ (λ l. l.few.symbols); readings = of _ (λ l. l.few.readings); inputs = of _ (λ l. l.few.inputs); terms = of _ (λ l. l.few.terms); questions = of _ (λ l. l.few.questions); claims = of _ (λ l. l.few.claims); formulas = of _ (λ l. l.few.formulas); choices = of _ (λ l. l.few.choices) };
-        claims = of _ (λ l. l.each.claims);
-      }
-
-  -- how many there are at most
-  pub few_readings : length s.readings ≤ 6
-  few_readings = leb-true (length s.readings) 6 runnable.few.readings
-
-  pub few_questions : length s.questions ≤ 6
-  few_questions = leb-true (length s.questions) 6 runnable.few.questions
-
-  pub few_claims : length s.claims ≤ 4
-  few_claims = leb-true (length s.claims) 4 runnable.few.claims

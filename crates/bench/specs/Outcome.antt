@@ -1,11 +1,8 @@
 -- What a run answers, what it leaves in the place for the last configuration, and when it is refused.
 -- Assumes nothing.
-use Rattle.std.specs.Prelude.{◌≡◌, ℕ, ◌*◌, ◌<◌, ◌≤◌, true, false, List, length, Some, None, Option, ◌≢◌, slice_index_or}
+use Rattle.std.specs.Prelude.{◌≡◌, ℕ, ◌*◌, ◌<◌, ◌≤◌, false, List, length, Some, None, Option, ◌≢◌, slice_index_or}
 use Rattle.fault.specs.declared.BenchFault.TheVariants.{TooManySteps, InputsLength, StartsLength}
 use Rattle.fault.specs.declared.Fault.{Fault}
-use Rattle.sheet.specs.declared.syntax.Record.{Record}
-use Rattle.sheet.specs.Lawful.{Few, each_at}
-use Rattle.sheet.specs.Rules.{obeys_at}
 use Rattle.sheet.specs.Runs.{Configuration, after, FirstBreak}
 use Rattle.sheet.specs.System.{System}
 use Rattle.sheet.specs.Truth.{Meaning}
@@ -19,11 +16,6 @@ Same d xs ys = (k : ℕ) → slice_index_or xs k d ≡ slice_index_or ys k d
 pub record Holds (place : Place) (c : Configuration) : Type 0 where
   pub bits : Same false place.bits c.bits
   pub readings : Same 0 place.readings c.readings
-
--- what a run leans on of a lawful sheet: no letter passes its most, and no input stands in a claim
-pub record Runnable (s : System) : Type 0 where
-  pub few : Few s
-  pub claims : each_at (λ n e. obeys_at s n (Record.Claim e)) 0 s.claims ≡ true
 
 -- the number of the last configuration of a run: the first that breaks the invariant, or n
 abbrev pub last_of : ℕ → Option ℕ → ℕ

@@ -69,12 +69,9 @@ impl Current {
         );
         let values = &self.values;
         let questions: [bool; 6] = answer(sheet.parts.questions.as_slice(), values);
-        let mut truths = [false; 64];
-        sheet.truths(&self.place.bits, &questions, &[], &mut truths);
-        let mut chosen = [0; 64];
-        sheet.terms_of_choices(&truths, &mut chosen);
-        let bits = sheet.next_bits(&self.place.bits, &truths);
-        let readings = next_readings(sheet, &self.place.readings, &chosen, values);
+        let branch = sheet.resolve(&self.place.bits, &questions);
+        let bits = sheet.next_bits(&self.place.bits, &branch.truths);
+        let readings = next_readings(sheet, &self.place.readings, &branch.chosen, values);
         self.place = Configuration { bits, readings };
     }
 }

@@ -17,10 +17,9 @@ fn is_equal(equation: Equation, values: &[u32]) -> bool
 fn answer_at(equations: &[Equation], values: &[u32], n: usize) -> bool
     ensures { result ≡ slice_index_or (answers values.now equations.now) n false }
 {
-    match equations.get(n) {
-        Some(equation) => is_equal(*equation, values),
-        None => false,
-    }
+    equations
+        .get(n)
+        .is_some_and(|equation| is_equal(*equation, values))
 }
 
 /// Whether the two terms of each equation are equal; past the equations all are false.

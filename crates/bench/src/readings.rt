@@ -28,34 +28,33 @@ pub(crate) fn start_readings<M: Model>(sheet: &Sheet, model: &mut M, starts: &[u
 {
     let readings = sheet.parts.readings.as_slice();
     let mut out = [0; 6];
-    // A loop, since every turn may ask the model, and the order of its turns is promised.
-    for (k, slot) in out.iter_mut().enumerate() {
-        *slot = match readings.get(k) {
-            Some(reading) => start_value(model, reading.start, starts),
-            None => 0,
-        };
+    // A loop, since `from_fn` would have to say what each call leaves of the model.
+    for (k, reading) in readings.iter().enumerate() {
+        out[k] = start_value(model, reading.start, starts);
     }
     out
 }
 
 // The next value of a reading that was `old`.
+// Bits have a near twin in `sheet`: one function for both would be given the default, the field and the
+// lookup, and be longer.
 fn next_of(reading: Reading, old: u32, chosen: &[u8], values: &[u32]) -> u32
     ensures { result ≡ or_kept (λ k. slice_index values.now (slice_index chosen.now k)) old reading.next }
 {
-    match reading.next {
-        Some(choice) => value_at(values, chosen.get(choice as usize).copied().unwrap_or(0)),
-        None => old,
-    }
+    reading.next.map_or(
+        old,
+        |choice| value_at(values, chosen.get(choice as usize).copied().unwrap_or(0)),
+    )
 }
 
 // The next value of reading n, and 0 past the last.
 fn next_at(readings: &[Reading], old: &[u32], chosen: &[u8], values: &[u32], n: usize) -> u32
     ensures { result ≡ slice_index (numbered (λ n r. or_kept (λ k. slice_index values.now (slice_index chosen.now k)) (slice_index old.now n) r.next) 0 readings.now) n }
 {
-    match readings.get(n) {
-        Some(reading) => next_of(*reading, old.get(n).copied().unwrap_or(0), chosen, values),
-        None => 0,
-    }
+    readings.get(n).map_or(
+        0,
+        |reading| next_of(*reading, old.get(n).copied().unwrap_or(0), chosen, values),
+    )
 }
 
 /// The readings after a step from the old ones, by the terms that the choices come to; past the sheet's

@@ -44,9 +44,9 @@ static CURVES: [Curve; 3] = [
 fn run_once(sheet: &Sheet) -> anyhow::Result<Option<u32>> {
     let mut model = Affine::new(65_521, &CURVES).map_err(|_| anyhow!("no model"))?;
     let count = sheet.parts.inputs as usize * STEPS as usize;
-    let Some(inputs) = INPUTS.get(..count) else {
-        return Err(anyhow!("too many inputs"));
-    };
+    let inputs = INPUTS
+        .get(..count)
+        .ok_or_else(|| anyhow!("too many inputs"))?;
     run(sheet, &mut model, &STARTS, STEPS, inputs).map_err(|_| anyhow!("the run is refused"))
 }
 
@@ -57,10 +57,9 @@ fn print_rate(rt: &HostRuntime, sheet: &Sheet, times: u32) -> anyhow::Result<()>
     }
     let micros = start.elapsed(rt)?.as_micros();
     let steps = times as u128 * STEPS as u128;
-    if micros == 0 {
-        return Err(anyhow!("too quick to measure"));
-    }
-    let rate = steps * 1_000_000 / micros;
+    let rate = (steps * 1_000_000)
+        .checked_div(micros)
+        .ok_or_else(|| anyhow!("too quick to measure"))?;
     println!(rt; "steps per second {rate}")?;
     Ok(())
 }

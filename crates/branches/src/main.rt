@@ -25,12 +25,12 @@ use closure::decide;
 use fault::{Failure, TableFault};
 use folding::{form, takes};
 use reader::{read, smallest};
-use rows::{RowRecord, names_of_row};
+use rows::{RowRecord, front, names_of_row};
 use sheet::Sheet;
 use std::alloc::AllocError;
 use std::io::Read;
 use terms::{Count, MOST_TERMS, TermRecord};
-use writing::{Answer, ConditionsView, RowView, Taking, front};
+use writing::{Answer, ConditionsView, RowView, Taking};
 
 /// A sheet's step, with the memory that the calls are lent.
 #[derive(Drop)]

@@ -4,15 +4,10 @@ ghost use Rattle.std.specs.Iterator.{IsFinite};
 use candidates::Conditions;
 use fault::{Fault, TableFault};
 use folding::Renaming;
-use rows::{RowRecord, bits_of, readings_of};
+use rows::{RowRecord, bits_of, front, readings_of};
 use sheet::Sheet;
 use std::fmt;
 use terms::{Condition, Node, Sign, TermRecord};
-
-/// The first `n` elements, or all where there are fewer.
-pub(crate) fn front<T>(xs: &[T], n: usize) -> &[T] {
-    &xs[..n.min(xs.len())]
-}
 
 /// What a call answers, or the fault for which there is no answer.
 #[derive(Drop)]

@@ -1,8 +1,6 @@
 -- The start names of a lawful sheet are among the 32.
-use Rattle.std.proofs.Common.{◌≡◌, ℕ, ◌<◌, ◌≤◌, Bool, true, length, get_or, arith}
-use Rattle.std.proofs.Math.Bool.{Bool-set}
-use Rattle.std.proofs.Math.Logic.{∥∥₁_elim}
-use Rattle.std.proofs.lemmas.Bool.{leb-true, ltb-true}
+use Rattle.std.proofs.Common.{◌≡◌, ℕ, ◌<◌, true, length, get_or, arith}
+use Rattle.std.proofs.lemmas.Bool.{ltb-true}
 use Rattle.sheet.specs.declared.syntax.Record.{Record}
 use Rattle.sheet.specs.declared.syntax.Start.{Start}
 use Rattle.sheet.specs.Lawful.{Lawful}

@@ -72,36 +72,36 @@ module _ (rs rs' : List TermRecord) (n n' : ℕ) (x : Extends rs n rs' n') where
   pub vectored_later : (ts : List Term) (m : ℕ) (ps : List ℕ) → Vectored rs n ts m ps → Vectored rs' n' ts m ps
   vectored_later ts m ps h k lt = (omega (arith, (h k lt).0, x.more), (x.stays (get_or ps k 0) (h k lt).0).1 ∙ (h k lt).1)
 
-module _ (values v : List Term) (places names : List ℕ) (rs : List TermRecord) (n : ℕ) (i : ℕ) (rs₁ : List TermRecord) (n₁ : ℕ) (known₁ : List (Option ℕ)) (rs₂ : List TermRecord) (n₂ : ℕ) (known₂ : List (Option ℕ)) where
+module _ {values v : List Term} {places names : List ℕ} {rs : List TermRecord} {n i : ℕ} {rs₁ : List TermRecord} {n₁ : ℕ} {known₁ : List (Option ℕ)} where
   -- one more condition, or none for want of terms
-  module _ (ls : List Literal) (l : Literal) (inside : i < length ls) (is : l ≡ get_or ls i no_literal) (w : Walked values v places names rs n (sides_of (take i ls)) rs₁ n₁ known₁) where
+  module _ (ls : List Literal) {l : Literal} (inside : i < length ls) (is : l ≡ get_or ls i no_literal) (w : Walked values v places names rs n (sides_of (take i ls)) rs₁ n₁ known₁) where
     more : sides_of (take i ls) ++ sides_of (l ∷ []) ≡ sides_of (take (i + 1) ls)
     more = ap (λ (x : Literal). sides_of (take i ls) ++ sides_of (x ∷ [])) is ∙ sym (sides_more ls i inside)
 
-    pub asked_more : (cs : List Condition) (c : Condition) → i < length cs → Listed rs₁ n₁ ls i cs → length rs₂ ≡ length rs₁ → Gained rs₁ n₁ (sides_of (l ∷ [])) rs₂ n₂ → Made values rs₂ n₂ known₂ (Stands rs₂ n₂ l) c → Walked values v places names rs n (sides_of (take (i + 1) ls)) rs₂ n₂ known₂ × Listed rs₂ n₂ ls (i + 1) (set cs i c)
-    asked_more cs c room listed long g m = (
-      subst (λ ts. Walked values v places names rs n ts rs₂ n₂ known₂) more (walked_more values v places names rs rs₁ n n₁ (sides_of (take i ls)) known₁ w rs₂ n₂ (sides_of (l ∷ [])) known₂ long g m.recalled),
+    pub asked_more : {rs₂ : List TermRecord} {n₂ : ℕ} {known₂ : List (Option ℕ)} (cs : List Condition) {c : Condition} → i < length cs → Listed rs₁ n₁ ls i cs → length rs₂ ≡ length rs₁ → Gained rs₁ n₁ (sides_of (l ∷ [])) rs₂ n₂ → Made values rs₂ n₂ known₂ (Stands rs₂ n₂ l) c → Walked values v places names rs n (sides_of (take (i + 1) ls)) rs₂ n₂ known₂ × Listed rs₂ n₂ ls (i + 1) (set cs i c)
+    asked_more {rs₂} {n₂} {known₂} cs {c} room listed long g m = (
+      subst (λ ts. Walked values v places names rs n ts rs₂ n₂ known₂) more (walked_more w long g m),
       set_more (λ k. Stands rs₂ n₂ (get_or ls k no_literal)) cs i c no_condition room (listed_later rs₁ rs₂ n₁ n₂ g.extends ls i cs listed) (subst (λ x. Stands rs₂ n₂ x c) is m.made),
     )
 
-    pub asked_break : Overfull rs₁ n₁ (sides_of (l ∷ [])) → Extends rs₁ n₁ rs₂ n₂ → Overfull rs n (sides_of ls) × Extends rs n rs₂ n₂
+    pub asked_break : {rs₂ : List TermRecord} {n₂ : ℕ} → Overfull rs₁ n₁ (sides_of (l ∷ [])) → Extends rs₁ n₁ rs₂ n₂ → Overfull rs n (sides_of ls) × Extends rs n rs₂ n₂
     asked_break over x =
-        walked_refused values v places names rs rs₁ n n₁ (sides_of (take i ls)) known₁ w rs₂ n₂ (sides_of (l ∷ [])) (sides_of ls) (λ all h. subst (HasAll all) (sym more) (sides_part ls (i + 1) all h)) over x
+        walked_refused w (sides_of (l ∷ [])) (sides_of ls) (λ all h. subst (HasAll all) (sym more) (sides_part ls (i + 1) all h)) over x
 
   -- one more place
-  module _ (ts : List Term) (t : Term) (inside : i < length ts) (is : t ≡ get_or ts i no_term) (w : Walked values v places names rs n (take i ts) rs₁ n₁ known₁) where
+  module _ (ts : List Term) {t : Term} (inside : i < length ts) (is : t ≡ get_or ts i no_term) (w : Walked values v places names rs n (take i ts) rs₁ n₁ known₁) where
     more_places : take i ts ++ t ∷ [] ≡ take (i + 1) ts
     more_places = ap (λ (x : Term). take i ts ++ x ∷ []) is ∙ sym (take_more ts i no_term inside)
 
-    pub placed_more : (ps : List ℕ) (p : ℕ) → i < length ps → Vectored rs₁ n₁ ts i ps → length rs₂ ≡ length rs₁ → Gained rs₁ n₁ (t ∷ []) rs₂ n₂ → Made values rs₂ n₂ known₂ (At rs₂ n₂ t) p → Walked values v places names rs n (take (i + 1) ts) rs₂ n₂ known₂ × Vectored rs₂ n₂ ts (i + 1) (set ps i p)
-    placed_more ps p room vectored long g m = (
-      subst (λ us. Walked values v places names rs n us rs₂ n₂ known₂) more_places (walked_more values v places names rs rs₁ n n₁ (take i ts) known₁ w rs₂ n₂ (t ∷ []) known₂ long g m.recalled),
+    pub placed_more : {rs₂ : List TermRecord} {n₂ : ℕ} {known₂ : List (Option ℕ)} (ps : List ℕ) {p : ℕ} → i < length ps → Vectored rs₁ n₁ ts i ps → length rs₂ ≡ length rs₁ → Gained rs₁ n₁ (t ∷ []) rs₂ n₂ → Made values rs₂ n₂ known₂ (At rs₂ n₂ t) p → Walked values v places names rs n (take (i + 1) ts) rs₂ n₂ known₂ × Vectored rs₂ n₂ ts (i + 1) (set ps i p)
+    placed_more {rs₂} {n₂} {known₂} ps {p} room vectored long g m = (
+      subst (λ us. Walked values v places names rs n us rs₂ n₂ known₂) more_places (walked_more w long g m),
       set_more (λ k. At rs₂ n₂ (get_or ts k no_term)) ps i p 0 room (vectored_later rs₁ rs₂ n₁ n₂ g.extends ts i ps vectored) (m.made.0, m.made.1 ∙ is),
     )
 
-    pub placed_break : Overfull rs₁ n₁ (t ∷ []) → Extends rs₁ n₁ rs₂ n₂ → Overfull rs n ts × Extends rs n rs₂ n₂
+    pub placed_break : {rs₂ : List TermRecord} {n₂ : ℕ} → Overfull rs₁ n₁ (t ∷ []) → Extends rs₁ n₁ rs₂ n₂ → Overfull rs n ts × Extends rs n rs₂ n₂
     placed_break over x =
-        walked_refused values v places names rs rs₁ n n₁ (take i ts) known₁ w rs₂ n₂ (t ∷ []) ts (λ all h. subst (HasAll all) (sym more_places) (terms_part ts (i + 1) all h)) over x
+        walked_refused w (t ∷ []) ts (λ all h. subst (HasAll all) (sym more_places) (terms_part ts (i + 1) all h)) over x
 
 -- the row's own conditions stand behind
 pub joined : (rs : List TermRecord) (n : ℕ) (ls : List Literal) (own list : List Condition) (c : Conditions) (q : ℕ) → length ls ≡ q → Listed rs n ls q list → c.used ≡ q + length own → ((k : ℕ) → k < q → get_or c.list k no_condition ≡ get_or list k no_condition) → ((k : ℕ) → k < length own → get_or c.list (q + k) no_condition ≡ get_or own k no_condition) → length c.list ≡ 22 → Joined rs n ls own c

@@ -3,6 +3,7 @@ use Rattle.std.proofs.Common.{◌≡◌, ℕ, zero, suc, ◌<◌, ◌≤◌, Lis
 use Rattle.std.specs.List.{ContainsAt as Has}
 use Rattle.std.proofs.lemmas.List.{length-map, get_or-map, get_or_past}
 use Rattle.fault.specs.declared.TableFault.{TableFault}
+use Rattle.fault.specs.declared.TableFault.TheVariants.{TermsExhausted}
 use Rattle.sheet.specs.declared.syntax.Args.TheVariants.{Zero, One, Two, Three}
 use Rattle.sheet.specs.declared.syntax.Term.{Term as SheetTerm}
 use Rattle.sheet.specs.declared.syntax.TermEntry.{TermEntry}
@@ -20,7 +21,7 @@ use Rattle.banks.specs.Gains.{Gained, Overfull}
 use Rattle.banks.proofs.Gaining.{gained_none, gained_more, gained_as, gained_interned, gained_held, overfull_later, overfull_as, overfull_interned}
 use Rattle.forms.specs.Candidate.{no_term, term_over, terms_over}
 use Rattle.candidates.specs.declared.instantiating.Memory.{Memory}
-use Rattle.candidates.specs.Working.{Recalls, Started, Over, Placed, Walked, Lent}
+use Rattle.candidates.specs.Working.{Recalls, Started, Over, Made, Placed, Walked, Lent}
 
 -- the memory that was lent, over two calls
 pub lent_more : (a b c : Memory) → Lent a b → Lent b c → Lent a c
@@ -78,49 +79,49 @@ module _ (values : List Term) (rs rs' : List TermRecord) (n n' : ℕ) (known : L
 pub placed_held : (values : List Term) (rs : List TermRecord) (n : ℕ) (known : List (Option ℕ)) (t : Term) (p : ℕ) → Started values rs n known → p < n → term_at rs p ≡ t → Placed values rs n t rs n known (Ok p)
 placed_held values rs n known t p s lt is = (gained_held rs n t s.bank (p, lt, is), record { made = (lt, is); recalled = s.recalled })
 
-module _ (values v : List Term) (places names : List ℕ) where
-  pub walked_start : (rs : List TermRecord) (n : ℕ) (known : List (Option ℕ)) → Over v rs n places names → Started values rs n known → Walked values v places names rs n [] rs n known
-  walked_start rs n known o s = record { gained = gained_none rs n s.bank; over = o; started = s }
+module _ {values v : List Term} {places names : List ℕ} {rs : List TermRecord} {n : ℕ} where
+  pub walked_start : {known : List (Option ℕ)} → Over v rs n places names → Started values rs n known → Walked values v places names rs n [] rs n known
+  walked_start o s = record { gained = gained_none rs n s.bank; over = o; started = s }
 
-  module _ (rs rs' : List TermRecord) (n n' : ℕ) (ts : List Term) (known' : List (Option ℕ)) (w : Walked values v places names rs n ts rs' n' known') (rs'' : List TermRecord) (n'' : ℕ) where
-    pub walked_more : (us : List Term) (known'' : List (Option ℕ)) → length rs'' ≡ length rs' → Gained rs' n' us rs'' n'' → Recalls values rs'' n'' known'' → Walked values v places names rs n (ts ++ us) rs'' n'' known''
-    walked_more us known'' long g k =
+  module _ {rs' : List TermRecord} {n' : ℕ} {ts : List Term} {known' : List (Option ℕ)} (w : Walked values v places names rs n ts rs' n' known') where
+    pub walked_more : {rs'' : List TermRecord} {n'' : ℕ} {us : List Term} {known'' : List (Option ℕ)} {A : Type 0} {P : A → Type 0} {a : A} → length rs'' ≡ length rs' → Gained rs' n' us rs'' n'' → Made values rs'' n'' known'' P a → Walked values v places names rs n (ts ++ us) rs'' n'' known''
+    walked_more {rs''} {n''} {us} long g made =
         record {
           gained = gained_more rs rs' n n' ts w.gained us rs'' n'' g;
           over = over_later v rs' rs'' n' n'' places names g.extends w.over;
-          started = record { bank = g.extends.bank; long = omega (arith, w.started.long); recalled = k };
+          started = record { bank = g.extends.bank; long = omega (arith, w.started.long); recalled = made.recalled };
         }
 
-    pub walked_refused : (us whole : List Term) → ((all : List Term) → HasAll all whole → HasAll all (ts ++ us)) → Overfull rs' n' us → Extends rs' n' rs'' n'' → Overfull rs n whole × Extends rs n rs'' n''
-    walked_refused us whole inside over x =
+    pub walked_refused : {rs'' : List TermRecord} {n'' : ℕ} (us whole : List Term) → ((all : List Term) → HasAll all whole → HasAll all (ts ++ us)) → Overfull rs' n' us → Extends rs' n' rs'' n'' → Overfull rs n whole × Extends rs n rs'' n''
+    walked_refused {rs''} {n''} us whole inside over x =
         (overfull_as rs n (ts ++ us) whole inside (overfull_later rs rs' n n' ts w.gained us over), extends_more rs rs' rs'' n n' n'' w.gained.extends x)
 
     -- the last term has the others as subterms
-    pub walked_placed : (t : Term) (known'' : List (Option ℕ)) (r : Result ℕ TableFault) → ((all : List Term) → Throughout (Has all) t → HasAll all (ts ++ t ∷ [])) → Placed values rs' n' t rs'' n'' known'' r → Placed values rs n t rs'' n'' known'' r
-    walked_placed t known'' (Ok p) inside h =
+    pub walked_placed : (t : Term) (rs'' : List TermRecord) (n'' : ℕ) (known'' : List (Option ℕ)) (r : Result ℕ TableFault) → ((all : List Term) → Throughout (Has all) t → HasAll all (ts ++ t ∷ [])) → Placed values rs' n' t rs'' n'' known'' r → Placed values rs n t rs'' n'' known'' r
+    walked_placed t rs'' n'' known'' (Ok p) inside h =
         (gained_as rs rs'' n n'' (ts ++ t ∷ []) (gained_more rs rs' n n' ts w.gained (t ∷ []) rs'' n'' h.0) (t ∷ []) (λ all u. inside all u.0) ((p, h.1.made.0, h.1.made.1), tt), h.1)
-    walked_placed t known'' (Err e) inside h =
+    walked_placed t rs'' n'' known'' (Err e) inside h =
         let x = walked_refused (t ∷ []) (t ∷ []) (λ all u. inside all u.0) h.1 h.2 in (h.0, x.0, x.1)
 
     -- an argument is refused
-    pub walked_break : (u t : Term) (known'' known : List (Option ℕ)) (e : TableFault) (r : Result ℕ TableFault) → ((all : List Term) → Throughout (Has all) t → HasAll all (ts ++ u ∷ [])) → Placed values rs' n' u rs'' n'' known'' (Err e) → IsErrAnd r (λ y. y ≡ e) → Placed values rs n t rs'' n'' known r
-    walked_break u t known'' known e (Ok p) inside h by = absurd by
-    walked_break u t known'' known e (Err y) inside h by =
+    pub walked_break : {rs'' : List TermRecord} {n'' : ℕ} {e : TableFault} (u t : Term) (known : List (Option ℕ)) (r : Result ℕ TableFault) → ((all : List Term) → Throughout (Has all) t → HasAll all (ts ++ u ∷ [])) → (e ≡ TermsExhausted) × Overfull rs' n' (u ∷ []) × Extends rs' n' rs'' n'' → IsErrAnd r (λ y. y ≡ e) → Placed values rs n t rs'' n'' known r
+    walked_break u t known (Ok p) inside h by = absurd by
+    walked_break u t known (Err y) inside h by =
         let x = walked_refused (u ∷ []) (t ∷ []) (λ all w'. inside all w'.0) h.1 h.2 in (by ∙ h.0, x.0, x.1)
 
 -- term n of a sheet over a row
 abbrev pub no_entry : TermEntry
 no_entry = record { term = SheetTerm.Reading 0; info = record { height = 0; has_input = mathlib.Core.Bool.false } }
 
-module _ (v : List Term) (inputs : List ℕ) (entries : List TermEntry) (n below : ℕ) where
-  pub over_none : below ≤ n → before no_term (terms_over v inputs (map term_in entries)) n below ≡ no_term
-  over_none h = before_none no_term (terms_over v inputs (map term_in entries)) n below h
+module _ (v : List Term) (inputs : List ℕ) (entries : List TermEntry) where
+  pub over_none : {n below : ℕ} → below ≤ n → before no_term (terms_over v inputs (map term_in entries)) n below ≡ no_term
+  over_none {n} {below} h = before_none no_term (terms_over v inputs (map term_in entries)) n below h
 
-  pub over_past : length entries ≤ n → before no_term (terms_over v inputs (map term_in entries)) n below ≡ no_term
-  over_past h =
+  pub over_past : {n : ℕ} (below : ℕ) → length entries ≤ n → before no_term (terms_over v inputs (map term_in entries)) n below ≡ no_term
+  over_past {n} below h =
       before_past no_term (terms_over v inputs (map term_in entries)) n below (omega (arith, grow-length (term_over v inputs) [] (map term_in entries), length-map entries term_in))
 
-  module _ (here : n < below) (inside : n < length entries) where
+  module _ {n below : ℕ} (here : n < below) (inside : n < length entries) where
     pub over_here : before no_term (terms_over v inputs (map term_in entries)) n below ≡ get_or (terms_over v inputs (map term_in entries)) n no_term
     over_here = before_here no_term (terms_over v inputs (map term_in entries)) n below here
 
@@ -129,25 +130,25 @@ module _ (v : List Term) (inputs : List ℕ) (entries : List TermEntry) (n below
         let i : n < length (map term_in entries) = omega (arith, length-map entries term_in) in
         over_here ∙ (grow_at (term_over v inputs) (map term_in entries) n no_term (SheetTerm.Reading 0) i ∙ ap (term_over v inputs (take n (terms_over v inputs (map term_in entries)))) (get_or-map term_in entries n no_entry (SheetTerm.Reading 0) inside ∙ e))
 
-    pub over_reading : (r : ℕ) → term_in (get_or entries n no_entry) ≡ SheetTerm.Reading r → before no_term (terms_over v inputs (map term_in entries)) n below ≡ get_or v r no_term
-    over_reading r e = over_at (SheetTerm.Reading r) e
+    pub over_reading : {r : ℕ} → term_in (get_or entries n no_entry) ≡ SheetTerm.Reading r → before no_term (terms_over v inputs (map term_in entries)) n below ≡ get_or v r no_term
+    over_reading {r} e = over_at (SheetTerm.Reading r) e
 
-    pub over_input : (i : ℕ) → term_in (get_or entries n no_entry) ≡ SheetTerm.Input i → before no_term (terms_over v inputs (map term_in entries)) n below ≡ name (get_or inputs i 0)
-    over_input i e = over_at (SheetTerm.Input i) e
+    pub over_input : {i : ℕ} → term_in (get_or entries n no_entry) ≡ SheetTerm.Input i → before no_term (terms_over v inputs (map term_in entries)) n below ≡ name (get_or inputs i 0)
+    over_input {i} e = over_at (SheetTerm.Input i) e
 
-    module _ (f : ℕ) where
+    module _ {f : ℕ} where
       pub over_zero : term_in (get_or entries n no_entry) ≡ SheetTerm.Apply f Zero → before no_term (terms_over v inputs (map term_in entries)) n below ≡ constant f
       over_zero e = over_at (SheetTerm.Apply f Zero) e
 
-      pub over_one : (a : ℕ) → term_in (get_or entries n no_entry) ≡ SheetTerm.Apply f (One a) → before no_term (terms_over v inputs (map term_in entries)) n below ≡ unary f (before no_term (terms_over v inputs (map term_in entries)) a n)
-      over_one a e = over_at (SheetTerm.Apply f (One a)) e ∙ ap (unary f) (take-before no_term (terms_over v inputs (map term_in entries)) a n)
+      pub over_one : {a : ℕ} → term_in (get_or entries n no_entry) ≡ SheetTerm.Apply f (One a) → before no_term (terms_over v inputs (map term_in entries)) n below ≡ unary f (before no_term (terms_over v inputs (map term_in entries)) a n)
+      over_one {a} e = over_at (SheetTerm.Apply f (One a)) e ∙ ap (unary f) (take-before no_term (terms_over v inputs (map term_in entries)) a n)
 
-      pub over_two : (a b : ℕ) → term_in (get_or entries n no_entry) ≡ SheetTerm.Apply f (Two a b) → before no_term (terms_over v inputs (map term_in entries)) n below ≡ binary f (before no_term (terms_over v inputs (map term_in entries)) a n) (before no_term (terms_over v inputs (map term_in entries)) b n)
-      over_two a b e =
+      pub over_two : {a b : ℕ} → term_in (get_or entries n no_entry) ≡ SheetTerm.Apply f (Two a b) → before no_term (terms_over v inputs (map term_in entries)) n below ≡ binary f (before no_term (terms_over v inputs (map term_in entries)) a n) (before no_term (terms_over v inputs (map term_in entries)) b n)
+      over_two {a} {b} e =
           over_at (SheetTerm.Apply f (Two a b)) e ∙ ap₂ (binary f) (take-before no_term (terms_over v inputs (map term_in entries)) a n) (take-before no_term (terms_over v inputs (map term_in entries)) b n)
 
-      pub over_three : (a b d : ℕ) → term_in (get_or entries n no_entry) ≡ SheetTerm.Apply f (Three a b d) → before no_term (terms_over v inputs (map term_in entries)) n below ≡ ternary f (before no_term (terms_over v inputs (map term_in entries)) a n) (before no_term (terms_over v inputs (map term_in entries)) b n) (before no_term (terms_over v inputs (map term_in entries)) d n)
-      over_three a b d e =
+      pub over_three : {a b d : ℕ} → term_in (get_or entries n no_entry) ≡ SheetTerm.Apply f (Three a b d) → before no_term (terms_over v inputs (map term_in entries)) n below ≡ ternary f (before no_term (terms_over v inputs (map term_in entries)) a n) (before no_term (terms_over v inputs (map term_in entries)) b n) (before no_term (terms_over v inputs (map term_in entries)) d n)
+      over_three {a} {b} {d} e =
           let p = take-before no_term (terms_over v inputs (map term_in entries)) a n in
           let q = take-before no_term (terms_over v inputs (map term_in entries)) b n in
           let r = take-before no_term (terms_over v inputs (map term_in entries)) d n in
@@ -158,14 +159,15 @@ over_all v inputs entries n =
     before_all no_term (terms_over v inputs (map term_in entries)) n (length entries) (omega (arith, grow-length (term_over v inputs) [] (map term_in entries), length-map entries term_in))
 
 -- a term is made of its arguments
-pub has_unary : (all : List Term) (t a : Term) (f : ℕ) → t ≡ unary f a → Throughout (Has all) t → HasAll all (a ∷ t ∷ [])
-has_unary all t a f e h = let h' = subst (Throughout (Has all)) e h in (h'.1, (h, tt))
+module _ (all : List Term) {t : Term} {f : ℕ} where
+  pub has_unary : {a : Term} → t ≡ unary f a → Throughout (Has all) t → HasAll all (a ∷ t ∷ [])
+  has_unary e h = let h' = subst (Throughout (Has all)) e h in (h'.1, (h, tt))
 
-pub has_binary : (all : List Term) (t a b : Term) (f : ℕ) → t ≡ binary f a b → Throughout (Has all) t → HasAll all (a ∷ b ∷ t ∷ [])
-has_binary all t a b f e h = let h' = subst (Throughout (Has all)) e h in (h'.1, (h'.2, (h, tt)))
+  pub has_binary : {a b : Term} → t ≡ binary f a b → Throughout (Has all) t → HasAll all (a ∷ b ∷ t ∷ [])
+  has_binary e h = let h' = subst (Throughout (Has all)) e h in (h'.1, (h'.2, (h, tt)))
 
-pub has_ternary : (all : List Term) (t a b c : Term) (f : ℕ) → t ≡ ternary f a b c → Throughout (Has all) t → HasAll all (a ∷ b ∷ c ∷ t ∷ [])
-has_ternary all t a b c f e h = let h' = subst (Throughout (Has all)) e h in (h'.1, (h'.2, (h'.3, (h, tt))))
+  pub has_ternary : {a b c : Term} → t ≡ ternary f a b c → Throughout (Has all) t → HasAll all (a ∷ b ∷ c ∷ t ∷ [])
+  has_ternary e h = let h' = subst (Throughout (Has all)) e h in (h'.1, (h'.2, (h'.3, (h, tt))))
 
 pub ternary_same : (f : ℕ) {a b c x y z : Term} → a ≡ x → b ≡ y → c ≡ z → ternary f a b c ≡ ternary f x y z
 ternary_same f p q r = cc

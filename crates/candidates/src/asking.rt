@@ -13,7 +13,7 @@ use rows::{MOST_CANDIDATE_CONDITIONS, at_or};
 use sheet::Equation;
 use terms::{Condition, Sign};
 
-// A function and no `From`, since the sign is a type of another crate.
+// A function and no `From<bool>` of the sign: that true means equal holds of answers alone.
 pub(crate) fn sign_of(answer: bool) -> Sign
     ensures { result ≡ sign_of answer }
 {
@@ -48,6 +48,7 @@ impl Given<'_> {
         ensures conditions { Walks self.entry memory.old (λ v values. sides_of (numbered (condition_of values answers.now) 0 questions.now)) memory.new (λ rs n v values. Listed rs n (numbered (condition_of values answers.now) 0 questions.now) (length questions.now)) result }
     {
         let mut list = [Condition::BLANK; MOST_CANDIDATE_CONDITIONS];
+        // By number: of what a loop over `iter_mut().zip(..)` has written nothing can be proved.
         for (i, question) in questions.iter().enumerate() {
             let answer = at_or(answers, i, false);
             list[i] = self.condition_of(memory, *question, answer)?;
@@ -57,6 +58,7 @@ impl Given<'_> {
 }
 
 /// The row's own conditions behind the first `asked`.
+// On a buffer with its length, since rows are memory of a fixed size.
 pub(crate) fn append(mut list: [Condition; 22], asked: usize, own: &[Condition]) -> Conditions
     requires { asked + length own.now ≤ 22 }
     ensures used { result.used ≡ asked + length own.now }

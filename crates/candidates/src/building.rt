@@ -12,14 +12,14 @@ use crate::answers::answers_of;
 use crate::asking::append;
 use crate::conditions::Conditions;
 use crate::instantiating::{Given, MOST_SHEET_TERMS, Memory};
-use crate::resolving::resolve;
 use fault::TableFault;
 use rows::{RowRecord, bits_of};
 use sheet::{Equation, Reading, Sheet};
 use terms::{Condition, Count, TermRecord};
 
 pub(crate) fn questions_of(sheet: &Sheet) -> usize
-    ensures { result ≡ length (sheet_of sheet.now).questions }
+    ensures number { result ≡ length (sheet_of sheet.now).questions }
+    ensures few { result ≤ 6 }
 {
     sheet.parts.questions.len()
 }
@@ -66,6 +66,8 @@ pub(crate) fn build_conditions<'a>(
 }
 
 /// The row's candidate on the branch.
+// Begins as `build_conditions` and does not call it: the vector is built in the memory that the conditions leave, where
+// the terms that they asked for are known.
 pub(crate) fn build<'a>(
     sheet: &'a Sheet,
     bank: &mut [TermRecord],
@@ -89,7 +91,7 @@ pub(crate) fn build<'a>(
     let own = &row.conditions[..row.used as usize];
     let conditions = conditions_of(sheet, given, &mut memory, own, answers)?;
     let bits = &row.bits[..bits_of(sheet)];
-    let resolved = resolve(sheet, bits, answers);
+    let resolved = sheet.resolve(bits, answers);
     let readings: &[Reading] = &sheet.parts.readings;
     let vector = given.next_vector(&mut memory, readings, &resolved.chosen)?;
     let bits = sheet.next_bits(bits, &resolved.truths);

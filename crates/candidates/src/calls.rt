@@ -1,5 +1,5 @@
 //! The calls. A refusal leaves the count and the records that were in use as they were.
-ghost use Rattle.std.specs.Prelude.{◌≡◌, List, MatchResult};
+ghost use Rattle.std.specs.Prelude.{List};
 ghost use Rattle.sheet.specs.View.{sheet_of};
 ghost use Rattle.terms.specs.Terms.{Term};
 ghost use Rattle.banks.specs.Room.{Holding};
@@ -16,21 +16,6 @@ use rows::RowRecord;
 use sheet::Sheet;
 use terms::{Count, MOST_TERMS, TermRecord};
 
-// What was made; on a refusal the count is again what it was.
-fn or_restored<T>(
-    count: &mut Count,
-    before: u16,
-    made: Result<T, TableFault>,
-) -> Result<T, TableFault>
-    ensures made { result ≡ made }
-    ensures count { MatchResult made (λ _. count.new.terms ≡ count.old.terms) (λ _. count.new.terms ≡ before) }
-{
-    if made.is_err() {
-        count.terms = before;
-    }
-    made
-}
-
 /// Row 0 of a sheet: the start bits, a term for each reading's start, and no condition.
 pub fn first_row(
     sheet: &Sheet,
@@ -45,7 +30,7 @@ pub fn first_row(
     }
     let before = count.terms;
     let made = start_row(sheet, bank, count);
-    or_restored(count, before, made)
+    count.or_restored(before, made)
 }
 
 /// The conditions of the candidate of a row on a branch: the questions' before the row's own. All that a strike needs.
@@ -64,11 +49,11 @@ pub fn branch_conditions(
     let names = prepare(sheet, bank, before, row, branch)?;
     let names = &names[..sheet.parts.inputs as usize];
     let made = build_conditions(sheet, bank, count, row, names, branch);
-    or_restored(count, before, made)
+    count.or_restored(before, made)
 }
 
-// Not one function with `branch_conditions`: what is built, and what it asks, is another thing in each.
 /// The candidate of a row on a branch.
+// Not one function with `branch_conditions`: what is built, and the terms for which there must be room, differ.
 pub fn candidate(
     sheet: &Sheet,
     bank: &mut [TermRecord],
@@ -84,5 +69,5 @@ pub fn candidate(
     let names = prepare(sheet, bank, before, row, branch)?;
     let names = &names[..sheet.parts.inputs as usize];
     let made = build(sheet, bank, count, row, names, branch);
-    or_restored(count, before, made)
+    count.or_restored(before, made)
 }

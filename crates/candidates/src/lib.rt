@@ -11,7 +11,6 @@ pub mod conditions;
 mod door;
 mod instantiating;
 mod naming;
-mod resolving;
 mod safety;
 mod starting;
 mod successor;

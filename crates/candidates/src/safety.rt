@@ -27,56 +27,69 @@ fn signed(mut list: [Condition; 22], answers: &[bool]) -> [Condition; 22]
     ensures front { (k : ℕ) → k < length answers.now → slice_index_or result k no_condition ≡ with_answer (slice_index_or list k no_condition) (slice_index_or answers.now k false) }
     ensures back { (k : ℕ) → length answers.now ≤ k → slice_index_or result k no_condition ≡ slice_index_or list k no_condition }
 {
+    // By number: of what a loop over `iter_mut().zip(..)` has written nothing can be proved.
     for (k, answer) in answers.iter().enumerate() {
         list[k].sign = sign_of(*answer);
     }
     list
 }
 
-// Whether the invariant is false in a case of the claims that the conditions allow.
-fn is_breaking(
-    sheet: &Sheet,
-    bank: &[TermRecord],
-    count: Count,
-    bits: &[bool],
-    conditions: Conditions,
-    case: u8,
-    labels: &mut [u16],
-) -> Result<bool, TableFault>
-    requires claims { length (sheet_of sheet.now).claims ≤ 4 }
-    requires used { conditions.used ≤ 22 }
-    ensures { (form : Row) → Laid (sheet_of sheet.now) form bank.now count.terms conditions.list conditions.used → form.bits ≡ bits.now → 512 ≤ length labels.old → Tried (sheet_of sheet.now) form case result }
+fn claims_of(sheet: &Sheet) -> usize
+    ensures number { result ≡ length (sheet_of sheet.now).claims }
+    ensures few { result ≤ 4 }
 {
-    let claims = sheet.parts.claims.len();
-    let answers = &answers_of(case)[..claims];
-    if sheet.truth(sheet.invariant, bits, &[], answers) {
-        return Ok(false);
-    }
-    let list = signed(conditions.list, answers);
-    let verdict = decide(bank, count, &list[..conditions.used as usize], labels)?;
-    Ok(!verdict.impossible)
+    sheet.parts.claims.len()
 }
 
-// Whether no case of the claims has a false invariant and is allowed by the conditions.
-fn is_unbroken(
-    sheet: &Sheet,
-    bank: &[TermRecord],
-    count: Count,
-    bits: &[bool],
+// The cases of a form's claims: the conditions of the first case, with the form's own, and the form's bits. The bank is
+// lent to each call beside it, since what was lent in a struct is not known to be unchanged.
+#[derive(Clone, Copy)]
+struct Cases<'a> {
+    sheet: &'a Sheet,
+    bits: &'a [bool],
     conditions: Conditions,
-    labels: &mut [u16],
-) -> Result<bool, TableFault>
-    requires claims { length (sheet_of sheet.now).claims ≤ 4 }
-    requires used { conditions.used ≤ 22 }
-    ensures { (form : Row) → Laid (sheet_of sheet.now) form bank.now count.terms conditions.list conditions.used → form.bits ≡ bits.now → 512 ≤ length labels.old → Searched (sheet_of sheet.now) form result }
-{
-    let cases = 1u8 << sheet.parts.claims.len();
-    for case in 0..cases {
-        if is_breaking(sheet, bank, count, bits, conditions, case, labels)? {
+    ghost room: { conditions.used ≤ 22 },
+}
+
+impl Cases<'_> {
+    // Whether the invariant is false in a case that the conditions allow.
+    fn is_breaking(
+        &self,
+        bank: &[TermRecord],
+        count: Count,
+        case: u8,
+        labels: &mut [u16],
+    ) -> Result<bool, TableFault>
+        ensures { (form : Row) → Laid (sheet_of self.now.sheet.now) form bank.now count.terms self.now.conditions.list self.now.conditions.used → form.bits ≡ self.now.bits.now → 512 ≤ length labels.old → Tried (sheet_of self.now.sheet.now) form case result }
+    {
+        let sheet = self.sheet;
+        let answers = &answers_of(case)[..claims_of(sheet)];
+        if sheet.truth(sheet.invariant, self.bits, &[], answers) {
             return Ok(false);
         }
+        let list = signed(self.conditions.list, answers);
+        let used = &list[..self.conditions.used as usize];
+        let verdict = decide(bank, count, used, labels)?;
+        Ok(!verdict.impossible)
     }
-    Ok(true)
+
+    // Whether no case has a false invariant and is allowed by the conditions.
+    fn is_unbroken(
+        &self,
+        bank: &[TermRecord],
+        count: Count,
+        labels: &mut [u16],
+    ) -> Result<bool, TableFault>
+        ensures { (form : Row) → Laid (sheet_of self.now.sheet.now) form bank.now count.terms self.now.conditions.list self.now.conditions.used → form.bits ≡ self.now.bits.now → 512 ≤ length labels.old → Searched (sheet_of self.now.sheet.now) form result }
+    {
+        let cases = 1u8 << claims_of(self.sheet);
+        for case in 0..cases {
+            if self.is_breaking(bank, count, case, labels)? {
+                return Ok(false);
+            }
+        }
+        Ok(true)
+    }
 }
 
 // Interns the terms of all claims and tries the cases.
@@ -87,7 +100,6 @@ fn judge<'a>(
     form: &'a RowRecord,
     labels: &mut [u16],
 ) -> Result<bool, TableFault>
-    requires claims { length (sheet_of sheet.now).claims ≤ 4 }
     requires sound { Sound (sheet_of sheet.now) bank.old count.old.terms 16 form.now }
     requires labelled { 512 ≤ length labels.old }
     ensures { Added bank.old count.old.terms (claim_terms (sheet_of sheet.now) (row_in (sheet_of sheet.now) bank.old form.now)) bank.new count.new.terms (Unbroken (sheet_of sheet.now) (row_in (sheet_of sheet.now) bank.old form.now)) result }
@@ -99,17 +111,23 @@ fn judge<'a>(
         count,
         known: [None; MOST_SHEET_TERMS],
     };
-    let first = &answers_of(0)[..claims.len()];
+    let asked = claims_of(sheet);
+    let first = &answers_of(0)[..asked];
     let list = given.ask(&mut memory, claims, first)?;
     let own = &form.conditions[..form.used as usize];
-    let conditions = append(list, claims.len(), own);
+    let conditions = append(list, asked, own);
     let bits = &form.bits[..bits_of(sheet)];
     let Memory {
         bank,
         count,
         known: _,
     } = memory;
-    is_unbroken(sheet, bank, *count, bits, conditions, labels)
+    let cases = Cases {
+        sheet,
+        bits,
+        conditions,
+    };
+    cases.is_unbroken(bank, *count, labels)
 }
 
 /// Whether no meaning makes the invariant false in a configuration that the form covers. The labels are work memory;

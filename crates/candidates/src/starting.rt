@@ -22,6 +22,7 @@ fn start_place(bank: &mut [TermRecord], count: &mut Count, start: Start) -> Resu
     }
 }
 
+// Beside `next_vector`: a start is a name or a constant, and no term of the sheet is asked for.
 fn start_vector(
     bank: &mut [TermRecord],
     count: &mut Count,
@@ -31,6 +32,7 @@ fn start_vector(
     ensures { Started [] bank.old count.old.terms [] → ((k : ℕ) → k < length readings.now → Named (slice_index_or readings.now k no_reading).start) → Added bank.old count.old.terms (map start_of readings.now) bank.new count.new.terms (Vectored bank.new count.new.terms (map start_of readings.now) (length readings.now)) result }
 {
     let mut out = [0; 6];
+    // By number: of what a loop over `iter_mut().zip(..)` has written nothing can be proved.
     for (k, reading) in readings.iter().enumerate() {
         out[k] = start_place(bank, count, reading.start)?;
     }

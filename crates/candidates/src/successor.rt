@@ -29,6 +29,7 @@ impl Given<'_> {
     }
 
     /// The place of each reading's next term, by the terms that the choices come to.
+    // Beside `start_vector`: a next term is one of the sheet's over the row, and asks for what is known of them.
     pub(crate) fn next_vector(
         self,
         memory: &mut Memory<'_>,
@@ -40,6 +41,7 @@ impl Given<'_> {
         ensures places { Walks self.entry memory.old (λ v values. numbered (λ n x. next_over chosen.now v values n x.next) 0 readings.now) memory.new (λ rs m v values. Vectored rs m (numbered (λ n x. next_over chosen.now v values n x.next) 0 readings.now) (length readings.now)) result }
     {
         let mut out = [0; 6];
+        // By number: of what a loop over `iter_mut().zip(..)` has written nothing can be proved.
         for (k, reading) in readings.iter().enumerate() {
             out[k] = self.next_place(memory, k, reading.next, chosen)?;
         }

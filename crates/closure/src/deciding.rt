@@ -10,7 +10,8 @@ use super::table::saturate;
 use fault::TableFault;
 use terms::{Condition, Count, Sign, TermRecord};
 
-/// Takes a condition in: an equation joins its places. Answers whether two classes became one.
+/// Takes a condition in: an equation joins its places. Answers whether two classes became one. The count of terms stands
+/// beside the labels as in `join`.
 fn assume(labels: &mut [u16], terms: usize, condition: Condition) -> bool
     requires inside { terms ≤ length labels.old }
     requires left { condition.left < terms }

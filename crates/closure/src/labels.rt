@@ -1,9 +1,11 @@
 //! Labels: places of one class have one label, the lowest place of the class.
+// No struct holds the labels: what the clauses say of them (their length, `Rooted`) is said of the count of the places,
+// and a struct of both would have to promise in each join that the places stay.
 ghost use Rattle.std.specs.Prelude.{◌≡◌, ℕ, ◌<◌, ◌≤◌, length};
 ghost use Rattle.closure.specs.Labels.{label};
 ghost use Rattle.closure.specs.Working.{merge, Spare, Joined};
 
-/// Each of the first `terms` places in a class of its own.
+/// Each of the first `terms` places in a class of its own. The count stands beside the labels as in `join`.
 pub(crate) fn start(labels: &mut [u16], terms: usize)
     requires inside { terms ≤ length labels.old }
     requires few { terms ≤ 512 }

@@ -1,5 +1,7 @@
 //! Pending equations: what a join makes equal among the places that a pass has left behind. The lists of uses only
 //! say where to look, so no proof rests on them: a pass that finds nothing to join ends the closure.
+// Places, table, labels, uses and queue are lent side by side: each call changes others of them, and a struct of all would
+// have to promise in each call which of them stay.
 ghost use Rattle.std.specs.Prelude.{◌≡◌, ℕ, ◌<◌, ◌≤◌, false, [], length};
 ghost use Rattle.queue.specs.Entries.{entries, room};
 ghost use Rattle.closure.specs.Working.{Rooted, Joined, Grown};

@@ -29,6 +29,8 @@ pub fn bucket(signature: Node) -> usize
 
 /// Each of the first `seen` places has one of its signature on the chain of its bucket. Chains are links in arrays,
 /// since closure allocates nothing.
+// The places are no field, though `seen` is at most their count: `visit` and `step` would have to promise that they stay,
+// and each clause would name them by way of the table.
 #[derive(Drop)]
 pub(crate) struct Table {
     heads: [Option<u16>; BUCKETS],
@@ -49,8 +51,9 @@ impl Table {
         }
     }
 
-    /// A place of the sought signature on the table. Crate `banks` looks nodes up in the same way: a call for both would
-    /// ask that chains go down, and public calls ask nothing.
+    /// A place of the sought signature on the table.
+    // Crate `banks` walks its chains in the same way. A walk for both would be public and take the test as a closure, and
+    // that the closure may be called would be a `requires` of it; public calls ask nothing.
     pub(crate) fn lookup(&self, places: &Places, labels: &[u16], sought: Node) -> Option<usize>
         requires inside { self.now.seen ≤ places.now.terms }
         requires labelled { places.now.terms ≤ length labels.now }
@@ -127,6 +130,7 @@ fn sweep(places: &Places, labels: &mut [u16], uses: &mut Uses, pending: &mut Pen
 {
     let mut table = Table::new();
     let mut joins = 0;
+    // The table counts what it has seen, and takes the next place by that.
     while table.seen < places.terms {
         joins += table.step(places, labels, uses, pending);
     }

@@ -8,6 +8,7 @@ use terms::{Condition, Count, MOST_TERMS, Node, Sign, TermRecord, intern};
 /// One entry is five numbers: a kind, a symbol or name, and three places. They are numbers since they come from C.
 const ENTRY: usize = 5;
 
+/// The node of an entry of kind 0 to 4.
 fn node(kind: u16, symbol: u8, a: u16, b: u16, c: u16) -> Node {
     match kind {
         0 => Node::Name(symbol),
@@ -25,11 +26,10 @@ fn load<'a>(
     conditions: &'a mut [Condition],
 ) -> Result<(Count, &'a [Condition]), TableFault> {
     let mut count = Count { terms: 0 };
+    // Counted by hand, since only the entries that are conditions take a slot.
     let mut used = 0;
-    for entry in entries.chunks_exact(ENTRY) {
-        let [kind, symbol, a, b, c] = entry else {
-            return Err(TableFault::BadMemory);
-        };
+    let (entries, _) = entries.as_chunks::<ENTRY>();
+    for [kind, symbol, a, b, c] in entries {
         if *kind < 5 {
             let made = node(*kind, (*symbol % 256) as u8, *a, *b, *c);
             intern(bank, &mut count, made)?;

@@ -22,15 +22,14 @@ fn read(heap: Global, text: &[u8], reader: &mut Reader) -> Result<Vec<Condition>
 {
     let mut conditions = Vec::new(heap);
     let mut rest = text;
-    let mut line = 1usize;
     while !rest.is_empty() {
+        let line = conditions.len() + 1;
         let (read, more) = reader.condition(rest).map_err(|why| Stopped { line, why })?;
         conditions.push(read).map_err(|_| Stopped {
             line,
             why: Unread::Memory,
         })?;
         rest = more;
-        line = line.saturating_add(1);
     }
     Ok(conditions)
 }

@@ -65,9 +65,9 @@ impl Reader {
         ensures extends { Extends self.old.bank self.old.count.terms self.new.bank self.new.count.terms }
         ensures term { IfOk result (λ p. (p.0 < self.new.count.terms) × (120 ∷ text.now ≡ written (term_at self.new.bank p.0) ++ p.1.now)) }
     {
-        let Some((x @ 0..=31, rest)) = number(text) else {
-            return Err(Unread::NoSuchName);
-        };
+        let (x, rest) = number(text)
+            .filter(|(x, _)| *x < 32)
+            .ok_or(Unread::NoSuchName)?;
         let place = self.add(Node::Name(x))?;
         Ok((place, rest))
     }
@@ -80,36 +80,24 @@ impl Reader {
         if let Some(rest) = after(text, b'x') {
             return self.name(rest);
         }
-        let Some(rest) = after(text, b's') else {
-            return Err(Unread::NoTerm);
-        };
-        let Some((f, rest)) = number(rest) else {
-            return Err(Unread::NoSuchSymbol);
-        };
+        let rest = after(text, b's').ok_or(Unread::NoTerm)?;
+        let (f, rest) = number(rest).ok_or(Unread::NoSuchSymbol)?;
         let Some(rest) = after(rest, b'(') else {
             return self.finish(rest, Node::Constant(f), f, 0);
         };
-        if room == 0 {
-            return Err(Unread::TooManyTerms);
-        }
-        let (a, rest) = self.term(rest, room - 1)?;
+        let room = room.checked_sub(1).ok_or(Unread::TooManyTerms)?;
+        let (a, rest) = self.term(rest, room)?;
         if let Some(rest) = after(rest, b')') {
             return self.finish(rest, Node::Unary(f, a), f, 1);
         }
-        let Some(rest) = after(rest, b',') else {
-            return Err(Unread::NoArgumentEnd);
-        };
-        let (b, rest) = self.term(rest, room - 1)?;
+        let rest = after(rest, b',').ok_or(Unread::NoArgumentEnd)?;
+        let (b, rest) = self.term(rest, room)?;
         if let Some(rest) = after(rest, b')') {
             return self.finish(rest, Node::Binary(f, a, b), f, 2);
         }
-        let Some(rest) = after(rest, b',') else {
-            return Err(Unread::NoArgumentEnd);
-        };
-        let (c, rest) = self.term(rest, room - 1)?;
-        let Some(rest) = after(rest, b')') else {
-            return Err(Unread::NoArgumentEnd);
-        };
+        let rest = after(rest, b',').ok_or(Unread::NoArgumentEnd)?;
+        let (c, rest) = self.term(rest, room)?;
+        let rest = after(rest, b')').ok_or(Unread::NoArgumentEnd)?;
         self.finish(rest, Node::Ternary(f, a, b, c), f, 3)
     }
 
@@ -119,13 +107,9 @@ impl Reader {
         ensures line { IfOk result (λ p. (p.0.left < self.new.count.terms) × (p.0.right < self.new.count.terms) × (text.now ≡ line (literal_of self.new.bank p.0) ++ p.1.now)) }
     {
         let (left, rest) = self.term(text, DEEPEST)?;
-        let Some((sign, rest)) = sign(rest) else {
-            return Err(Unread::NoSign);
-        };
+        let (sign, rest) = sign(rest).ok_or(Unread::NoSign)?;
         let (right, rest) = self.term(rest, DEEPEST)?;
-        let Some(rest) = after(rest, b'\n') else {
-            return Err(Unread::LineGoesOn);
-        };
+        let rest = after(rest, b'\n').ok_or(Unread::LineGoesOn)?;
         Ok((Condition { left, right, sign }, rest))
     }
 }

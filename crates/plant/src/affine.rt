@@ -58,6 +58,7 @@ fn curve_of(curves: &[Curve], symbol: u8) -> Curve
 }
 
 /// The value at `i`; a missing one counts 0.
+// One call of the library with its default, named here for the three arguments.
 fn value_or_zero(values: &[u32], i: usize) -> u32
     ensures { result ≡ slice_index values.now i }
 {

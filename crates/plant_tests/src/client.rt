@@ -17,6 +17,8 @@ pub fn asked_twice<M: Model>(model: &mut M, symbol: u8, values: &[u32]) -> (u32,
 }
 
 /// The same through a layer that owns the model.
+// This and those below have near the same body: each makes other layers, and knows another thing of the
+// model afterwards.
 pub fn through_owned<M: Model + Drop>(model: M, symbol: u8, values: &[u32]) -> (u32, u32)
     ensures { (result.0 ≡ M.meaning model symbol values.now) × (result.1 ≡ result.0) }
 {

@@ -34,6 +34,7 @@ impl<M: PlantModel> PlantModel for Counted<M> {
 }
 
 /// Counts over a model that is lent.
+// Apart from `Counted`, though it counts alike, since a loan is one of its lenders, and what it owns is none.
 #[derive(Drop)]
 pub struct CountedOver<'a, M> {
     pub below: &'a mut M,

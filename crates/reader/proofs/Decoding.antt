@@ -1,163 +1,67 @@
 -- The bytes that say something are just those that a record is written as.
-use Rattle.std.proofs.Common.{◌≡◌, ℕ, Bool, true, false, cond, eqb, List, [], ◌∷◌, length, get_or, Some, None, Option, sym, refl, ap, ◌∙◌, ap₂, arith}
+use Rattle.std.proofs.Common.{◌≡◌, ℕ, zero, suc, true, cond, eqb, List, [], ◌∷◌, length, get_or, Some, None, Option, sym, refl, ap, ◌∙◌, arith}
 use Rattle.std.proofs.lemmas.Bool.Decides.{nat_tests}
-use Rattle.sheet.specs.declared.syntax.Args.{Args}
-use Rattle.sheet.specs.declared.syntax.Args.TheVariants.{Zero, One, Two, Three}
-use Rattle.sheet.specs.declared.syntax.Choice.{Choice}
-use Rattle.sheet.specs.declared.syntax.Formula.{Formula}
 use Rattle.sheet.specs.declared.kind.Kind.{Kind}
 use Rattle.sheet.specs.declared.syntax.Record.{Record}
-use Rattle.sheet.specs.declared.syntax.Start.{Start}
 use Rattle.sheet.specs.declared.syntax.Term.{Term}
-use Rattle.reader.specs.Decode.{bit_of, start_of, args_of, term_of, formula_of, choice_of, decoded}
-use Rattle.sheet.specs.Rules.{keeps, arg_count}
+use Rattle.reader.specs.Decode.{decoded}
+use Rattle.sheet.specs.Rules.{keeps}
 use Rattle.sheet.specs.System.{System}
-use Rattle.std.specs.Option.{option_map}
-use Rattle.sheet.specs.Format.{letter, body_length, kind_of, body_of, written, start_body, args_body, term_body, formula_body, choice_body}
+use Rattle.sheet.specs.Format.{letter, body_length, kind_of, body_of, written}
 
-start_writes : (w n : ℕ) (s : Start) → start_of w n ≡ Some s → start_body s ≡ w ∷ n ∷ []
-start_writes w n s e = grind (arith, nat_tests)
+-- n elements from the place i on
+abbrev from : ℕ → ℕ → List ℕ → List ℕ
+from i zero b = []
+from i (suc n) b = get_or b i 0 ∷ from (suc i) n b
 
-args_writes : (k a b c : ℕ) (x : Args) → args_of k a b c ≡ Some x → args_body x ≡ a ∷ b ∷ c ∷ []
-args_writes k a b c x e = grind (arith, nat_tests)
-
-term_writes : (w n a b c k : ℕ) (t : Term) → term_of w n a b c k ≡ Some t → term_body t ≡ w ∷ n ∷ a ∷ b ∷ c ∷ []
-term_writes w n a b c k t e = grind (arith, nat_tests)
-
-formula_writes : (w a b : ℕ) (f : Formula) → formula_of w a b ≡ Some f → formula_body f ≡ w ∷ a ∷ b ∷ []
-formula_writes w a b f e = grind (arith, nat_tests)
-
-choice_writes : (w a b c : ℕ) (k : Choice) → choice_of w a b c ≡ Some k → choice_body k ≡ w ∷ a ∷ b ∷ c ∷ []
-choice_writes w a b c k e = grind (arith, nat_tests)
+from-later : (x : ℕ) (xs : List ℕ) (i n : ℕ) → from (suc i) n (x ∷ xs) ≡ from i n xs
+from-later x xs i zero = refl
+from-later x xs i (suc n) = ap (λ l. get_or xs i 0 ∷ l) (from-later x xs (suc i) n)
 
 -- a list of a known length, by its elements
-exact0 : (b : List ℕ) → length b ≡ 0 → b ≡ []
-exact0 [] e = refl
-exact0 (x ∷ xs) e = absurd (omega arith)
-
-exact1 : (b : List ℕ) → length b ≡ 1 → b ≡ get_or b 0 0 ∷ []
-exact1 [] e = absurd (omega arith)
-exact1 (x ∷ xs) e = ap (λ l. x ∷ l) (exact0 xs (omega arith))
-
-exact2 : (b : List ℕ) → length b ≡ 2 → b ≡ get_or b 0 0 ∷ get_or b 1 0 ∷ []
-exact2 [] e = absurd (omega arith)
-exact2 (x ∷ xs) e = ap (λ l. x ∷ l) (exact1 xs (omega arith))
-
-exact3 : (b : List ℕ) → length b ≡ 3 → b ≡ get_or b 0 0 ∷ get_or b 1 0 ∷ get_or b 2 0 ∷ []
-exact3 [] e = absurd (omega arith)
-exact3 (x ∷ xs) e = ap (λ l. x ∷ l) (exact2 xs (omega arith))
-
-exact4 : (b : List ℕ) → length b ≡ 4 → b ≡ get_or b 0 0 ∷ get_or b 1 0 ∷ get_or b 2 0 ∷ get_or b 3 0 ∷ []
-exact4 [] e = absurd (omega arith)
-exact4 (x ∷ xs) e = ap (λ l. x ∷ l) (exact3 xs (omega arith))
-
-exact5 : (b : List ℕ) → length b ≡ 5 → b ≡ get_or b 0 0 ∷ get_or b 1 0 ∷ get_or b 2 0 ∷ get_or b 3 0 ∷ get_or b 4 0 ∷ []
-exact5 [] e = absurd (omega arith)
-exact5 (x ∷ xs) e = ap (λ l. x ∷ l) (exact4 xs (omega arith))
-
-bit_writes : (w : ℕ) (v : Bool) → bit_of w ≡ Some v → cond v 1 0 ≡ w
-bit_writes w v e = grind (arith, nat_tests)
-
--- the value in a mapped option
-mapped_some : {A B : Type 0} (f : A → B) (o : Option A) (y : B) → option_map f o ≡ Some y → (x : A) × (o ≡ Some x) × (y ≡ f x)
-mapped_some f None y e = let z : ◌≡◌ {A = ℕ} 0 1 = cc in absurd (omega arith)
-mapped_some f (Some x) y e = (x, refl, (let q : y ≡ f x = cc in q))
+exact : (b : List ℕ) (n : ℕ) → length b ≡ n → b ≡ from 0 n b
+exact [] n e = rw (sym e) refl
+exact (x ∷ xs) n e = rw (sym e) (ap (λ l. x ∷ l) (exact xs (length xs) refl ∙ sym (from-later x xs 0 (length xs))))
 
 pub decode_writes : (s : System) (k : Kind) (b : List ℕ) (x : Record) → length b ≡ body_length k → decoded s k b ≡ Some x → written x ≡ letter k ∷ b
-decode_writes s Kind.Bit b x n e =
-    let m = mapped_some (λ w. Record.Bit w) (bit_of (get_or b 0 0)) x e in
-    ap written m.2 ∙ ap (λ l. 66 ∷ l) (ap (λ w. w ∷ []) (bit_writes (get_or b 0 0) m.0 m.1) ∙ sym (exact1 b n))
-decode_writes s Kind.Symbol b x n e =
-    let q : Record.Symbol (get_or b 0 0) ≡ x = cc in
-    ap written (sym q) ∙ ap (λ l. 70 ∷ l) (sym (exact1 b n))
-decode_writes s Kind.Reading b x n e =
-    let m = mapped_some (λ w. Record.Reading w) (start_of (get_or b 0 0) (get_or b 1 0)) x e in
-    ap written m.2 ∙ ap (λ l. 82 ∷ l) (start_writes (get_or b 0 0) (get_or b 1 0) m.0 m.1 ∙ sym (exact2 b n))
-decode_writes s Kind.Input b x n e =
-    let q : Record.Input ≡ x = cc in
-    ap written (sym q) ∙ ap (λ l. 73 ∷ l) (sym (exact0 b n))
-decode_writes s Kind.Term b x n e =
-    let m = mapped_some (λ t. Record.Term t) (term_of (get_or b 0 0) (get_or b 1 0) (get_or b 2 0) (get_or b 3 0) (get_or b 4 0) (get_or s.symbols (get_or b 1 0) 0)) x e in
-    ap written m.2 ∙ ap (λ l. 84 ∷ l) (term_writes (get_or b 0 0) (get_or b 1 0) (get_or b 2 0) (get_or b 3 0) (get_or b 4 0) (get_or s.symbols (get_or b 1 0) 0) m.0 m.1 ∙ sym (exact5 b n))
-decode_writes s Kind.Question b x n e =
-    let q : Record.Question (record { left = get_or b 0 0; right = get_or b 1 0 }) ≡ x = cc in
-    ap written (sym q) ∙ ap (λ l. 81 ∷ l) (sym (exact2 b n))
-decode_writes s Kind.Claim b x n e =
-    let q : Record.Claim (record { left = get_or b 0 0; right = get_or b 1 0 }) ≡ x = cc in
-    ap written (sym q) ∙ ap (λ l. 67 ∷ l) (sym (exact2 b n))
-decode_writes s Kind.Formula b x n e =
-    let m = mapped_some (λ f. Record.Formula f) (formula_of (get_or b 0 0) (get_or b 1 0) (get_or b 2 0)) x e in
-    ap written m.2 ∙ ap (λ l. 76 ∷ l) (formula_writes (get_or b 0 0) (get_or b 1 0) (get_or b 2 0) m.0 m.1 ∙ sym (exact3 b n))
-decode_writes s Kind.Choice b x n e =
-    let m = mapped_some (λ k. Record.Choice k) (choice_of (get_or b 0 0) (get_or b 1 0) (get_or b 2 0) (get_or b 3 0)) x e in
-    ap written m.2 ∙ ap (λ l. 75 ∷ l) (choice_writes (get_or b 0 0) (get_or b 1 0) (get_or b 2 0) (get_or b 3 0) m.0 m.1 ∙ sym (exact4 b n))
-decode_writes s Kind.NextBit b x n e =
-    let q : Record.NextBit (get_or b 0 0) (get_or b 1 0) ≡ x = cc in
-    ap written (sym q) ∙ ap (λ l. 78 ∷ l) (sym (exact2 b n))
-decode_writes s Kind.NextReading b x n e =
-    let q : Record.NextReading (get_or b 0 0) (get_or b 1 0) ≡ x = cc in
-    ap written (sym q) ∙ ap (λ l. 77 ∷ l) (sym (exact2 b n))
-decode_writes s Kind.Invariant b x n e =
-    let q : Record.Invariant (get_or b 0 0) ≡ x = cc in
-    ap written (sym q) ∙ ap (λ l. 86 ∷ l) (sym (exact1 b n))
-decode_writes s Kind.Bound b x n e =
-    let q : Record.Bound (get_or b 0 0) ≡ x = cc in
-    ap written (sym q) ∙ ap (λ l. 72 ∷ l) (sym (exact1 b n))
-decode_writes s Kind.End b x n e = let z : ◌≡◌ {A = ℕ} 0 1 = cc in absurd (omega arith)
-
-args_decoded : (k : ℕ) (x : Args) (f : ℕ) → k ≡ arg_count x → option_map (λ t. Record.Term t) (term_of 2 f (get_or (args_body x) 0 0) (get_or (args_body x) 1 0) (get_or (args_body x) 2 0) k) ≡ Some (Record.Term (Term.Apply f x))
-args_decoded k Zero f e = rw e
-args_decoded k (One a) f e = rw e
-args_decoded k (Two a b) f e = rw e
-args_decoded k (Three a b c) f e = rw e
+decode_writes s Kind.Bit b x n e = grind (arith, nat_tests, exact b 1 n)
+decode_writes s Kind.Symbol b x n e = grind (arith, exact b 1 n)
+decode_writes s Kind.Reading b x n e = grind (arith, nat_tests, exact b 2 n)
+decode_writes s Kind.Input b x n e = grind (arith, exact b 0 n)
+decode_writes s Kind.Term b x n e = grind (arith, nat_tests, exact b 5 n)
+decode_writes s Kind.Question b x n e = grind (arith, exact b 2 n)
+decode_writes s Kind.Claim b x n e = grind (arith, exact b 2 n)
+decode_writes s Kind.Formula b x n e = grind (arith, nat_tests, exact b 3 n)
+decode_writes s Kind.Choice b x n e = grind (arith, nat_tests, exact b 4 n)
+decode_writes s Kind.NextBit b x n e = grind (arith, exact b 2 n)
+decode_writes s Kind.NextReading b x n e = grind (arith, exact b 2 n)
+decode_writes s Kind.Invariant b x n e = grind (arith, exact b 1 n)
+decode_writes s Kind.Bound b x n e = grind (arith, exact b 1 n)
+decode_writes s Kind.End b x n e = grind arith
 
 pub decoded_body : (s : System) (x : Record) → keeps s x ≡ true → decoded s (kind_of x) (body_of x) ≡ Some x
-decoded_body s (Record.Bit true) h = refl
-decoded_body s (Record.Bit false) h = refl
+decoded_body s (Record.Bit b) h = grind arith
 decoded_body s (Record.Symbol a) h = refl
-decoded_body s (Record.Reading (Start.Name v)) h = refl
-decoded_body s (Record.Reading (Start.Constant c)) h = refl
+decoded_body s (Record.Reading w) h = grind arith
 decoded_body s Record.Input h = refl
 decoded_body s (Record.Term (Term.Reading r)) h = refl
 decoded_body s (Record.Term (Term.Input i)) h = refl
-decoded_body s (Record.Term (Term.Apply f x)) h =
-    let k : get_or s.symbols f 0 ≡ arg_count x = grind (arith, nat_tests) in
-    args_decoded (get_or s.symbols f 0) x f k
+decoded_body s (Record.Term (Term.Apply f x)) h = grind (arith, nat_tests)
 decoded_body s (Record.Question e) h = refl
 decoded_body s (Record.Claim e) h = refl
-decoded_body s (Record.Formula Formula.True) h = refl
-decoded_body s (Record.Formula (Formula.Bit b)) h = refl
-decoded_body s (Record.Formula (Formula.Question q)) h = refl
-decoded_body s (Record.Formula (Formula.Claim c)) h = refl
-decoded_body s (Record.Formula (Formula.Not a)) h = refl
-decoded_body s (Record.Formula (Formula.And a b)) h = refl
-decoded_body s (Record.Formula (Formula.Or a b)) h = refl
-decoded_body s (Record.Choice (Choice.Term t)) h = refl
-decoded_body s (Record.Choice (Choice.If f a b)) h = refl
+decoded_body s (Record.Formula f) h = grind arith
+decoded_body s (Record.Choice k) h = grind arith
 decoded_body s (Record.NextBit b f) h = refl
 decoded_body s (Record.NextReading r k) h = refl
 decoded_body s (Record.Invariant f) h = refl
 decoded_body s (Record.Bound h') h = refl
 
--- the kind that a letter begins, to tell letters apart
-abbrev kind_at : ℕ → Option Kind
-kind_at c = cond (eqb c 66) (Some Kind.Bit) (cond (eqb c 70) (Some Kind.Symbol) (cond (eqb c 82) (Some Kind.Reading) (cond (eqb c 73) (Some Kind.Input) (cond (eqb c 84) (Some Kind.Term) (cond (eqb c 81) (Some Kind.Question) (cond (eqb c 67) (Some Kind.Claim) (cond (eqb c 76) (Some Kind.Formula) (cond (eqb c 75) (Some Kind.Choice) (cond (eqb c 78) (Some Kind.NextBit) (cond (eqb c 77) (Some Kind.NextReading) (cond (eqb c 86) (Some Kind.Invariant) (cond (eqb c 72) (Some Kind.Bound) (Some Kind.End)))))))))))))
+-- the kind that a letter begins
+abbrev pub kind_at : ℕ → Option Kind
+kind_at c = cond (eqb c 66) (Some Kind.Bit) (cond (eqb c 70) (Some Kind.Symbol) (cond (eqb c 82) (Some Kind.Reading) (cond (eqb c 73) (Some Kind.Input) (cond (eqb c 84) (Some Kind.Term) (cond (eqb c 81) (Some Kind.Question) (cond (eqb c 67) (Some Kind.Claim) (cond (eqb c 76) (Some Kind.Formula) (cond (eqb c 75) (Some Kind.Choice) (cond (eqb c 78) (Some Kind.NextBit) (cond (eqb c 77) (Some Kind.NextReading) (cond (eqb c 86) (Some Kind.Invariant) (cond (eqb c 72) (Some Kind.Bound) (cond (eqb c 69) (Some Kind.End) None)))))))))))))
 
-kind_at_letter : (k : Kind) → kind_at (letter k) ≡ Some k
-kind_at_letter Kind.Bit = refl
-kind_at_letter Kind.Symbol = refl
-kind_at_letter Kind.Reading = refl
-kind_at_letter Kind.Input = refl
-kind_at_letter Kind.Term = refl
-kind_at_letter Kind.Question = refl
-kind_at_letter Kind.Claim = refl
-kind_at_letter Kind.Formula = refl
-kind_at_letter Kind.Choice = refl
-kind_at_letter Kind.NextBit = refl
-kind_at_letter Kind.NextReading = refl
-kind_at_letter Kind.Invariant = refl
-kind_at_letter Kind.Bound = refl
-kind_at_letter Kind.End = refl
+pub kind_at_letter : (k : Kind) → kind_at (letter k) ≡ Some k
+kind_at_letter k = grind (arith, nat_tests)
 
 pub letter-same : (j k : Kind) → letter j ≡ letter k → j ≡ k
 letter-same j k e =
@@ -165,36 +69,10 @@ letter-same j k e =
     cc
 
 pub length-body_of : (x : Record) → length (body_of x) ≡ body_length (kind_of x)
-length-body_of (Record.Bit b) = refl
-length-body_of (Record.Symbol a) = refl
-length-body_of (Record.Reading (Start.Name v)) = refl
-length-body_of (Record.Reading (Start.Constant c)) = refl
-length-body_of Record.Input = refl
-length-body_of (Record.Term (Term.Reading r)) = refl
-length-body_of (Record.Term (Term.Input i)) = refl
-length-body_of (Record.Term (Term.Apply f Zero)) = refl
-length-body_of (Record.Term (Term.Apply f (One a))) = refl
-length-body_of (Record.Term (Term.Apply f (Two a b))) = refl
-length-body_of (Record.Term (Term.Apply f (Three a b c))) = refl
-length-body_of (Record.Question e) = refl
-length-body_of (Record.Claim e) = refl
-length-body_of (Record.Formula Formula.True) = refl
-length-body_of (Record.Formula (Formula.Bit b)) = refl
-length-body_of (Record.Formula (Formula.Question q)) = refl
-length-body_of (Record.Formula (Formula.Claim c)) = refl
-length-body_of (Record.Formula (Formula.Not a)) = refl
-length-body_of (Record.Formula (Formula.And a b)) = refl
-length-body_of (Record.Formula (Formula.Or a b)) = refl
-length-body_of (Record.Choice (Choice.Term t)) = refl
-length-body_of (Record.Choice (Choice.If f a b)) = refl
-length-body_of (Record.NextBit b f) = refl
-length-body_of (Record.NextReading r k) = refl
-length-body_of (Record.Invariant f) = refl
-length-body_of (Record.Bound h) = refl
+length-body_of x = grind arith
 
 pub decode_finds : (s : System) (k : Kind) (b : List ℕ) (x : Record) → written x ≡ letter k ∷ b → keeps s x ≡ true → decoded s k b ≡ Some x
 decode_finds s k b x e h =
-    let l : letter (kind_of x) ≡ letter k = cc in
-    let q : body_of x ≡ b = cc in
-    let j : kind_of x ≡ k = letter-same (kind_of x) k l in
-    sym (ap₂ (λ (i : Kind) (c : List ℕ). decoded s i c) j q) ∙ decoded_body s x h
+    let j : kind_of x ≡ k = letter-same (kind_of x) k cc in
+    let found = decoded_body s x h in
+    grind arith

@@ -1,5 +1,5 @@
 -- What the judgement of one record says of the rules.
-use Rattle.std.proofs.Common.{◌≡◌, ℕ, Bool, true, false, cond, List, ◌∷◌, length, Some, None, Ok, Err, Option, Result, sym, refl, ap, ◌∙◌, arith}
+use Rattle.std.proofs.Common.{◌≡◌, ℕ, Bool, true, false, cond, List, ◌∷◌, length, Some, None, Ok, Err, Option, Result, refl, ap, ◌∙◌, arith}
 use Rattle.fault.specs.declared.SheetFault.{SheetFault}
 use Rattle.fault.specs.declared.SheetFault.TheVariants.{Truncated, UnknownLetter, BadBody, TooMany, Repeated, Incomplete, TrailingBytes}
 use Rattle.sheet.specs.declared.kind.Kind.{Kind}
@@ -38,7 +38,7 @@ pub obeys-keeps : (s : System) (x : Record) → obeys s x ≡ true → keeps s x
 obeys-keeps s x h = grind arith
 
 pub kind_is : (k : Kind) (b : List ℕ) (x : Record) → written x ≡ letter k ∷ b → kind_of x ≡ k
-kind_is k b x e = let l : letter (kind_of x) ≡ letter k = cc in letter-same (kind_of x) k l
+kind_is k b x e = letter-same (kind_of x) k cc
 
 module _ (s : System) (k : Kind) (b : List ℕ) (n : length b ≡ body_length k) (r : room s k ≡ true) where
   by_fresh : (x : Record) (v : Bool) → decoded s k b ≡ Some x → obeys s x ≡ true → fresh s x ≡ v → Says s k b (cond v (Ok x) (Err Repeated))
@@ -52,20 +52,16 @@ module _ (s : System) (k : Kind) (b : List ℕ) (n : length b ≡ body_length k)
   by_obeys x false d o = (
     r,
     λ y w p.
-        let q : ◌≡◌ {A = Option Record} (Some x) (Some y) = sym d ∙ decode_finds s k b y w (obeys-keeps s y p) in
-        let t : x ≡ y = cc in
-        let z : ◌≡◌ {A = Bool} true false = sym p ∙ (ap (obeys s) (sym t) ∙ o) in
-        let i : ◌≡◌ {A = ℕ} 0 1 = cc in
-        omega arith,
+        let y_decoded = decode_finds s k b y w (obeys-keeps s y p) in
+        grind arith,
   )
 
   by_decoded : (o : Option Record) → decoded s k b ≡ o → Says s k b (judged s o)
   by_decoded None d = (
     r,
     λ y w p.
-        let q : ◌≡◌ {A = Option Record} None (Some y) = sym d ∙ decode_finds s k b y w (obeys-keeps s y p) in
-        let i : ◌≡◌ {A = ℕ} 0 1 = cc in
-        omega arith,
+        let y_decoded = decode_finds s k b y w (obeys-keeps s y p) in
+        grind arith,
   )
   by_decoded (Some x) d = by_obeys x (obeys s x) d refl
 

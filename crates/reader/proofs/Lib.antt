@@ -5,3 +5,4 @@ pub mod Faults
 pub mod Judgement
 pub mod Orders
 pub mod Progressing
+pub mod Verdict

@@ -44,7 +44,7 @@ inside_front xs ys x p = omega (arith, length_push xs x, prefix_length (xs ++ x 
 room-before : (n m k : ℕ) → n < k → leb k m ≡ true → ltb n m ≡ true
 room-before n m k h e = grind (arith, nat_tests)
 
-from-given : (p : ℕ → Bool) (o : Option ℕ) (n : ℕ) → o ≡ Some n → given p o ≡ true → p n ≡ true
+pub from-given : (p : ℕ → Bool) (o : Option ℕ) (n : ℕ) → o ≡ Some n → given p o ≡ true → p n ≡ true
 from-given p o n e h = subst (λ q. given p q ≡ true) e h
 
 abbrev new_bit : Bool → Bit

@@ -1,5 +1,5 @@
 -- One record more, or the first fault.
-use Rattle.std.proofs.Common.{◌≡◌, ℕ, ◌+◌, ◌-◌, ◌<◌, ◌≤◌, true, false, List, [], ◌∷◌, ◌++◌, length, get_or, take, drop, Ok, Err, Result, sym, refl, ap, ◌∙◌, subst, inl, inr, append_assoc, arith, length-append, length-drop}
+use Rattle.std.proofs.Common.{◌≡◌, ℕ, ◌+◌, ◌-◌, ◌<◌, ◌≤◌, true, false, List, [], ◌∷◌, ◌++◌, length, get_or, take, drop, Ok, Err, Result, sym, ap, ◌∙◌, subst, inl, inr, append_assoc, arith, length-append, length-drop}
 use Rattle.std.proofs.lemmas.List.{drop_more, drop_all, drop-drop, take-append-drop, append-nil, length_push, length-take-le}
 use Rattle.fault.specs.declared.Place.{Place}
 use Rattle.fault.specs.declared.SheetFault.{SheetFault}
@@ -12,16 +12,13 @@ use Rattle.reader.specs.Outcome.{Allowed, AllAllowed, FaultyAt, Stops, complete}
 use Rattle.reader.specs.Progress.{KindAt, NoKindAt, ReadTo, Ended}
 use Rattle.sheet.specs.System.{System, nothing, add, gather, describe}
 use Rattle.reader.specs.Drafts.{draft_of, Added}
-use Rattle.reader.proofs.Judgement.{Good, Refused, Says, kind_is, judge_says, obeys-keeps}
+use Rattle.reader.proofs.Canon.{gather_append}
+use Rattle.reader.proofs.Judgement.{Good, Refused, Says, kind_is, judge_says}
 use Rattle.sheet.specs.Rules.{keeps}
 use Rattle.reader.specs.Decode.{judge}
 use Rattle.sheet.specs.Rules as Rules
 
 -- one record more
-pub gather-push : (s : System) (xs : List Record) (x : Record) → gather s (xs ++ x ∷ []) ≡ add (gather s xs) x
-gather-push s [] x = refl
-gather-push s (y ∷ ys) x = gather-push (add s y) ys x
-
 pub allowed_push : (s : System) (xs : List Record) (x : Record) → AllAllowed s xs → Allowed (gather s xs) x → AllAllowed s (xs ++ x ∷ [])
 allowed_push s [] x h a = (a, tt)
 allowed_push s (y ∷ ys) x h a = (h.0, allowed_push (add s y) ys x h.1 a)
@@ -61,7 +58,14 @@ module _ (bytes : List ℕ) (p : Place) (d : Draft) (xs : List Record) (h : Read
   pub no_kind : (f : SheetFault) → NoKindAt bytes p.byte f → FaultyAt bytes xs f p
   no_kind f n = faulty f (no_kind_stops f n)
 
-  module _ (k : Kind) (a : KindAt bytes p.byte k) (b : List ℕ) (is_b : b ≡ take (body_length k) (drop (p.byte + 1) bytes)) where
+  -- the body as the reader cuts it out, n bytes long
+  module _ (k : Kind) (a : KindAt bytes p.byte k) (n : ℕ) (is_n : n ≡ body_length k) where
+    abbrev b : List ℕ
+    b = take (p.byte + 1 + n - (p.byte + 1)) (drop (p.byte + 1) bytes)
+
+    is_b : b ≡ take (body_length k) (drop (p.byte + 1) bytes)
+    is_b = ap (λ m. take m (drop (p.byte + 1) bytes)) (omega (arith, is_n))
+
     after : List ℕ
     after = drop (p.byte + 1 + body_length k) bytes
 
@@ -97,17 +101,16 @@ module _ (bytes : List ℕ) (p : Place) (d : Draft) (xs : List Record) (h : Read
     pub good_at : (x : Record) → Ok x ≡ judge (draft_of d) k b → Good (draft_of d) k b x
     good_at x is = judged (Ok x) is
 
-    pub addable : (x : Record) → Good (draft_of d) k b x → keeps (draft_of d) x ≡ true
-    addable x g = obeys-keeps (draft_of d) x g.allowed.obeys
-
-    pub next : (x : Record) (d' : Draft) (xs' : List Record) (p' : Place) → Good (draft_of d) k b x → Added d x d' → xs' ≡ xs ++ x ∷ [] → p'.record ≡ p.record + 1 → p'.byte ≡ p.byte + 1 + body_length k → ReadTo bytes p' d' xs'
+    pub next : (x : Record) (d' : Draft) (xs' : List Record) (p' : Place) → Ok x ≡ judge (draft_of d) k b → Added d x d' → xs' ≡ xs ++ x ∷ [] → p'.record ≡ p.record + 1 → p'.byte ≡ p.byte + 1 + n → ReadTo bytes p' d' xs'
     unfolding after
-    next x d' xs' p' g added is-xs number at =
+    next x d' xs' p' is added is-xs number at' =
+        let g = good_at x is in
+        let at : p'.byte ≡ p.byte + 1 + body_length k = omega (arith, at', is_n) in
         let w : written_all xs' ≡ written_all xs ++ written x = ap written_all is-xs ∙ written_all-push xs x in
         let f : bytes ≡ written_all xs ++ (written x ++ drop p'.byte bytes) =
         h.front ∙ ap (λ l. written_all xs ++ l) (rest_is ∙ (ap (λ l. l ++ drop (p.byte + 1 + body_length k) bytes) (sym g.is) ∙ ap (λ n. written x ++ drop n bytes) (sym at))) in
         let body : length (written x) ≡ body_length k + 1 = ap length g.is ∙ (let q = whole_b in omega arith) in
-        record { front = f ∙ (sym (append_assoc (written_all xs) (written x) (drop p'.byte bytes)) ∙ ap (λ l. l ++ drop p'.byte bytes) (sym w)); byte = omega (arith, h.byte, body, ap length w, length-append (written_all xs) (written x)); number = number ∙ (ap (λ n. n + 1) h.number ∙ (sym (length_push xs x) ∙ ap length (sym is-xs))); few = omega (arith, h.few); allowed = subst (AllAllowed nothing) (sym is-xs) (allowed_push nothing xs x h.allowed (subst (λ s. Allowed s x) h.system g.allowed)); system = added ∙ (ap (λ s. add s x) h.system ∙ (sym (gather-push nothing xs x) ∙ ap describe (sym is-xs))) }
+        record { front = f ∙ (sym (append_assoc (written_all xs) (written x) (drop p'.byte bytes)) ∙ ap (λ l. l ++ drop p'.byte bytes) (sym w)); byte = omega (arith, h.byte, body, ap length w, length-append (written_all xs) (written x)); number = number ∙ (ap (λ n. n + 1) h.number ∙ (sym (length_push xs x) ∙ ap length (sym is-xs))); few = omega (arith, h.few); allowed = subst (AllAllowed nothing) (sym is-xs) (allowed_push nothing xs x h.allowed (subst (λ s. Allowed s x) h.system g.allowed)); system = added ∙ (ap (λ s. add s x) h.system ∙ (sym (gather_append nothing xs (x ∷ [])) ∙ ap describe (sym is-xs))) }
 
   -- at the end record
   module _ (a : KindAt bytes p.byte Kind.End) where
@@ -124,7 +127,3 @@ module _ (bytes : List ℕ) (p : Place) (d : Draft) (xs : List Record) (h : Read
     pub ended : complete (draft_of d) ≡ true → length bytes ≤ p.byte + 1 → Ended bytes d xs
     ended has last =
         record { is = h.front ∙ ap (λ l. written_all xs ++ l) (end_is ∙ ap (λ l. letter Kind.End ∷ l) (drop_all (p.byte + 1) bytes last)); allowed = h.allowed; system = h.system; whole = has }
-
--- the body as the reader cuts it out
-pub body_taken : (bytes : List ℕ) (i m n : ℕ) → m ≡ n → take (i + m - i) (drop i bytes) ≡ take n (drop i bytes)
-body_taken bytes i m n e = ap (λ j. take j (drop i bytes)) (omega arith)

@@ -40,16 +40,13 @@ abbrev pub given_record : (ℕ → Record) → Option ℕ → List Record
 given_record mk None = []
 given_record mk (Some n) = mk n ∷ []
 
-abbrev pub next_bit_records : ℕ → List Bit → List Record
-next_bit_records n [] = []
-next_bit_records n (b ∷ bs) = given_record (λ f. Record.NextBit n f) b.next ++ next_bit_records (suc n) bs
-
-abbrev pub next_reading_records : ℕ → List Reading → List Record
-next_reading_records n [] = []
-next_reading_records n (r ∷ rs) = given_record (λ k. Record.NextReading n k) r.next ++ next_reading_records (suc n) rs
+-- the next values that are given, each with the number of what it is given to
+abbrev pub next_records : {A : Type 0} → (A → Option ℕ) → (ℕ → ℕ → Record) → ℕ → List A → List Record
+next_records next mk n [] = []
+next_records next mk n (x ∷ xs) = given_record (mk n) (next x) ++ next_records next mk (suc n) xs
 
 abbrev pub records_of : System → List Record
-records_of s = map bit_record s.bits ++ (map symbol_record s.symbols ++ (map reading_record s.readings ++ (replicate s.inputs Record.Input ++ (map term_record s.terms ++ (map question_record s.questions ++ (map claim_record s.claims ++ (map formula_record s.formulas ++ (map choice_record s.choices ++ (next_bit_records 0 s.bits ++ (next_reading_records 0 s.readings ++ (given_record (λ f. Record.Invariant f) s.invariant ++ given_record (λ h. Record.Bound h) s.bound)))))))))))
+records_of s = map bit_record s.bits ++ (map symbol_record s.symbols ++ (map reading_record s.readings ++ (replicate s.inputs Record.Input ++ (map term_record s.terms ++ (map question_record s.questions ++ (map claim_record s.claims ++ (map formula_record s.formulas ++ (map choice_record s.choices ++ (next_records (λ b. b.next) (λ k f. Record.NextBit k f) 0 s.bits ++ (next_records (λ r. r.next) (λ k c. Record.NextReading k c) 0 s.readings ++ (given_record (λ f. Record.Invariant f) s.invariant ++ given_record (λ h. Record.Bound h) s.bound)))))))))))
 
 abbrev pub written_out : System → List ℕ
 written_out s = written_all (records_of s) ++ letter Kind.End ∷ []

@@ -1,10 +1,10 @@
 //! From the bytes of a body to what they say. Only bytes that a record can be written as say anything.
-ghost use Rattle.std.specs.Prelude.{◌≡◌};
+ghost use Rattle.std.specs.Prelude.{◌≡◌, slice_index};
 ghost use Rattle.reader.specs.Decode.{bit_of, start_of, args_of, term_of, formula_of, choice_of};
 
 use sheet::{Args, Choice, Formula, Start, Term};
 
-// Functions and no `TryFrom`: what most bodies say depends on several of their bytes together.
+// Functions and no `TryFrom`, since neither the trait nor the types are of this crate.
 pub(crate) fn decode_bit(start: u8) -> Option<bool>
     ensures { result ≡ bit_of start }
 {
@@ -25,51 +25,50 @@ pub(crate) fn decode_start(way: u8, number: u8) -> Option<Start>
     }
 }
 
-fn decode_args(arity: u8, a: u8, b: u8, c: u8) -> Option<Args>
-    ensures { result ≡ args_of arity a b c }
+fn decode_args(arity: u8, args: [u8; 3]) -> Option<Args>
+    ensures { result ≡ args_of arity (slice_index args 0) (slice_index args 1) (slice_index args 2) }
 {
-    match arity {
-        0 if a == 0 && b == 0 && c == 0 => Some(Args::Zero),
-        1 if b == 0 && c == 0 => Some(Args::One(a)),
-        2 if c == 0 => Some(Args::Two(a, b)),
-        3 => Some(Args::Three(a, b, c)),
+    match (arity, args) {
+        (0, [0, 0, 0]) => Some(Args::Zero),
+        (1, [a, 0, 0]) => Some(Args::One(a)),
+        (2, [a, b, 0]) => Some(Args::Two(a, b)),
+        (3, [a, b, c]) => Some(Args::Three(a, b, c)),
         _ => None,
     }
 }
 
-pub(crate) fn decode_term(way: u8, number: u8, a: u8, b: u8, c: u8, arity: u8) -> Option<Term>
-    ensures { result ≡ term_of way number a b c arity }
+pub(crate) fn decode_term(body: [u8; 5], arity: u8) -> Option<Term>
+    ensures { result ≡ term_of (slice_index body 0) (slice_index body 1) (slice_index body 2) (slice_index body 3) (slice_index body 4) arity }
 {
-    let unused = a == 0 && b == 0 && c == 0;
-    match way {
-        0 if unused => Some(Term::Reading(number)),
-        1 if unused => Some(Term::Input(number)),
-        2 => decode_args(arity, a, b, c).map(|args| Term::Apply(number, args)),
+    match body {
+        [0, reading, 0, 0, 0] => Some(Term::Reading(reading)),
+        [1, input, 0, 0, 0] => Some(Term::Input(input)),
+        [2, symbol, a, b, c] => decode_args(arity, [a, b, c]).map(|args| Term::Apply(symbol, args)),
         _ => None,
     }
 }
 
-pub(crate) fn decode_formula(way: u8, a: u8, b: u8) -> Option<Formula>
-    ensures { result ≡ formula_of way a b }
+pub(crate) fn decode_formula(body: [u8; 3]) -> Option<Formula>
+    ensures { result ≡ formula_of (slice_index body 0) (slice_index body 1) (slice_index body 2) }
 {
-    match way {
-        0 if a == 0 && b == 0 => Some(Formula::True),
-        1 if b == 0 => Some(Formula::Bit(a)),
-        2 if b == 0 => Some(Formula::Question(a)),
-        3 if b == 0 => Some(Formula::Claim(a)),
-        4 if b == 0 => Some(Formula::Not(a)),
-        5 => Some(Formula::And(a, b)),
-        6 => Some(Formula::Or(a, b)),
+    match body {
+        [0, 0, 0] => Some(Formula::True),
+        [1, bit, 0] => Some(Formula::Bit(bit)),
+        [2, question, 0] => Some(Formula::Question(question)),
+        [3, claim, 0] => Some(Formula::Claim(claim)),
+        [4, a, 0] => Some(Formula::Not(a)),
+        [5, a, b] => Some(Formula::And(a, b)),
+        [6, a, b] => Some(Formula::Or(a, b)),
         _ => None,
     }
 }
 
-pub(crate) fn decode_choice(way: u8, a: u8, b: u8, c: u8) -> Option<Choice>
-    ensures { result ≡ choice_of way a b c }
+pub(crate) fn decode_choice(body: [u8; 4]) -> Option<Choice>
+    ensures { result ≡ choice_of (slice_index body 0) (slice_index body 1) (slice_index body 2) (slice_index body 3) }
 {
-    match way {
-        0 if b == 0 && c == 0 => Some(Choice::Term(a)),
-        1 => Some(Choice::If(a, b, c)),
+    match body {
+        [0, term, 0, 0] => Some(Choice::Term(term)),
+        [1, formula, a, b] => Some(Choice::If(formula, a, b)),
         _ => None,
     }
 }

@@ -8,7 +8,7 @@ ghost use Rattle.sheet.specs.Rules.{no_info, plain, room, names, keeps, count, f
 ghost use Rattle.sheet.specs.System.{no_bit, no_reading};
 ghost use Rattle.reader.specs.Drafts.{draft_of};
 
-use crate::decode;
+use crate::decode::{decode_bit, decode_choice, decode_formula, decode_start, decode_term};
 use crate::draft::Draft;
 use fault::SheetFault;
 use sheet::{Args, Choice, Equation, Formula, FormulaInfo, Kind, Record, Start, Term, TermInfo};
@@ -18,10 +18,7 @@ impl Draft {
     fn has_room(&self, kind: Kind) -> bool
         ensures { result ≡ room (draft_of self.now) kind }
     {
-        match kind.most() {
-            Some(most) => self.count(kind) < most,
-            None => true,
-        }
+        kind.most().is_none_or(|most| self.count(kind) < most)
     }
 
     pub(crate) fn arity(&self, symbol: u8) -> u8
@@ -53,35 +50,26 @@ impl Draft {
         requires { length body.now ≡ body_length kind }
         ensures { result ≡ decoded (draft_of self.now) kind body.now }
     {
-        match kind {
-            Kind::Bit => Some(Record::Bit(decode::decode_bit(body[0])?)),
-            Kind::Symbol => Some(Record::Symbol(body[0])),
-            Kind::Reading => Some(Record::Reading(decode::decode_start(body[0], body[1])?)),
-            Kind::Input => Some(Record::Input),
-            Kind::Term => {
-                let arity = self.arity(body[1]);
-                let term = decode::decode_term(body[0], body[1], body[2], body[3], body[4], arity)?;
-                Some(Record::Term(term))
+        match (kind, body) {
+            (Kind::Bit, &[start]) => decode_bit(start).map(Record::Bit),
+            (Kind::Symbol, &[arity]) => Some(Record::Symbol(arity)),
+            (Kind::Reading, &[way, number]) => decode_start(way, number).map(Record::Reading),
+            (Kind::Input, _) => Some(Record::Input),
+            (Kind::Term, &[way, number, a, b, c]) => {
+                decode_term([way, number, a, b, c], self.arity(number)).map(Record::Term)
             }
-            Kind::Question => Some(Record::Question(Equation {
-                left: body[0],
-                right: body[1],
-            })),
-            Kind::Claim => Some(Record::Claim(Equation {
-                left: body[0],
-                right: body[1],
-            })),
-            Kind::Formula => Some(Record::Formula(decode::decode_formula(
-                body[0], body[1], body[2],
-            )?)),
-            Kind::Choice => Some(Record::Choice(decode::decode_choice(
-                body[0], body[1], body[2], body[3],
-            )?)),
-            Kind::NextBit => Some(Record::NextBit(body[0], body[1])),
-            Kind::NextReading => Some(Record::NextReading(body[0], body[1])),
-            Kind::Invariant => Some(Record::Invariant(body[0])),
-            Kind::Bound => Some(Record::Bound(body[0])),
-            Kind::End => None,
+            (Kind::Question, &[left, right]) => Some(Record::Question(Equation { left, right })),
+            (Kind::Claim, &[left, right]) => Some(Record::Claim(Equation { left, right })),
+            (Kind::Formula, &[way, a, b]) => decode_formula([way, a, b]).map(Record::Formula),
+            (Kind::Choice, &[way, a, b, c]) => {
+                decode_choice([way, a, b, c]).map(Record::Choice)
+            },
+            (Kind::NextBit, &[bit, formula]) => Some(Record::NextBit(bit, formula)),
+            (Kind::NextReading, &[reading, choice]) => Some(Record::NextReading(reading, choice)),
+            (Kind::Invariant, &[formula]) => Some(Record::Invariant(formula)),
+            (Kind::Bound, &[height]) => Some(Record::Bound(height)),
+            // The end record, since each body is as long as its kind asks for.
+            _ => None,
         }
     }
 
@@ -185,6 +173,7 @@ impl Draft {
         self.parts.bits.get(bit as usize).and_then(|bit| bit.next)
     }
 
+    // Beside `bit_next`: a field of the same name in another struct.
     fn reading_next(&self, reading: u8) -> Option<u8>
         ensures { result ≡ (get_or self.now.parts.readings.items reading no_reading).next }
     {
@@ -209,9 +198,7 @@ impl Draft {
         if !self.has_room(kind) {
             return Err(SheetFault::TooMany);
         }
-        let Some(record) = self.decode(kind, body) else {
-            return Err(SheetFault::BadBody);
-        };
+        let record = self.decode(kind, body).ok_or(SheetFault::BadBody)?;
         if !(self.names(record) && self.keeps(record)) {
             return Err(SheetFault::BadBody);
         }

@@ -36,6 +36,7 @@ fn outcome(heap: Global, bytes: &[u8]) -> Result<String, AllocError> {
             format!(in heap; "sheet ok records {count}")
         }
         Err(Failure::Fault(fault)) => format!(in heap; "{fault}"),
+        // Want of memory has no value to pass on.
         Err(Failure::Memory) => Err(AllocError),
     }
 }

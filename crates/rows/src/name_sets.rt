@@ -12,6 +12,7 @@ use sheet::Sheet;
 use terms::{Condition, TermRecord};
 
 /// The element of that number; past the end the default.
+// One call of the library with its default, named here for each list that is read so.
 pub fn at_or<T: Copy>(xs: &[T], n: usize, default: T) -> T
     ensures { result ≡ slice_index_or xs.now n default }
 {
@@ -54,7 +55,7 @@ pub fn names_of_conditions(bank: &[TermRecord], conditions: &[Condition]) -> u32
 }
 
 /// The first `n` elements; all where there are fewer.
-pub(crate) fn front<T>(xs: &[T], n: usize) -> &[T]
+pub fn front<T>(xs: &[T], n: usize) -> &[T]
     ensures { result.now ≡ take n xs.now }
 {
     xs.get(..n).unwrap_or(xs)

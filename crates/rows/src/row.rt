@@ -9,6 +9,7 @@ pub const MOST_CANDIDATE_CONDITIONS: usize = 22;
 
 /// A row, with its terms by their places in the bank. Places past the sheet's bits and readings and past the `used`
 /// conditions are spare.
+// The list and its length are fields of the row itself, since the definitions of rows speak of each by its name.
 #[derive(Clone, Copy)]
 pub struct RowRecord {
     pub bits: [bool; 16],

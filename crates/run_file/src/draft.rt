@@ -101,6 +101,7 @@ impl Draft {
         Ok(())
     }
 
+    // Beside `set_starts`: another field, and its number is made out only after the checks.
     fn set_steps(&mut self, numbers: &[u32]) -> Result<(), Halt>
         ensures { Means (λ _. so_far self.new) result (acted Keyword.Steps (so_far self.old) numbers.now) }
     {

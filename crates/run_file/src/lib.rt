@@ -53,6 +53,7 @@ impl Halt {
     }
 }
 
+// The conversions are written out, since a derived `From` has no contract.
 impl From<Problem> for Halt {
     ghost from_gives = { λ p r. r ≡ Halt.Problem p };
 

@@ -40,6 +40,7 @@ fn take_lines(heap: Global, draft: &mut Draft, bytes: &[u8]) -> Result<usize, Re
     ensures said { Tells (λ _. so_far draft.new) result (following 1 (so_far draft.old) (lines_of bytes.now)) }
     ensures count { IfOk result (λ n. n ≡ length (lines_of bytes.now)) }
 {
+    // Counted by hand, since the count is also the answer.
     let mut line = 0;
     for text in bytes.split(|b| *b == b'\n') {
         line += 1;

@@ -58,6 +58,7 @@ pub enum ReadFailure {
     Memory,
 }
 
+// Written out, since a derived `From` has no contract.
 impl From<LineError> for ReadFailure {
     ghost from_gives = { λ e r. r ≡ ReadFailure.Line e };
 

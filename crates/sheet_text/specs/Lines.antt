@@ -1,5 +1,5 @@
 -- The lines of a listing. Assumes nothing.
-use Rattle.std.specs.Prelude.{◌≡◌, ℕ, ◌+◌, ◌⊎◌, List, [], ◌∷◌, ◌++◌, length, codes, decimal}
+use Rattle.std.specs.Prelude.{◌≡◌, ℕ, ◌+◌, ◌⊎◌, List, [], ◌∷◌, ◌++◌, length, drop, codes, decimal}
 use Rattle.std.proofs.Math.Utf8.{encode}
 use Rattle.fault.specs.declared.Fault.{Fault}
 use Rattle.fault.specs.Values.{text_of}
@@ -28,7 +28,7 @@ ok_line r p = line_of r p (letter Kind.End) [] ++ (codes "sheet ok records " ++ 
 
 -- xs stand at the front of the bytes
 abbrev pub Front : List ℕ → List Record → Type 0
-Front bytes xs = (rest : List ℕ) × (bytes ≡ written_all xs ++ rest)
+Front bytes xs = bytes ≡ written_all xs ++ drop (length (written_all xs)) bytes
 
 pub record Whole (bytes text : List ℕ) : Type 0 where
   pub records : List Record

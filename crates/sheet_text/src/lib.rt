@@ -55,16 +55,48 @@ fn push_record(
     Ok(end)
 }
 
-// The lines of the records, which stand at the front of the bytes, and the place after them.
-fn push_records(text: &mut String, bytes: &[u8], records: &[Record]) -> Result<usize, AllocError>
-    requires { Front bytes.now records.now }
-    ensures { IfOk result (λ p. (p ≡ length (written_all records.now)) × (string_bytes text.new ≡ string_bytes text.old ++ lines_of 0 0 records.now)) }
-{
-    let mut place = 0;
-    for (number, record) in records.iter().enumerate() {
-        place = push_record(text, bytes, number, place, record.kind())?;
+// The bytes of a sheet, and the records that were read, which stand at their front.
+#[derive(Drop)]
+struct ReadRecords<'a> {
+    bytes: &'a [u8],
+    records: &'a [Record],
+    ghost front: { Front bytes.now records.now },
+}
+
+impl<'a> ReadRecords<'a> {
+    // The lines of the records, and the place after them.
+    fn push_records(&self, text: &mut String) -> Result<usize, AllocError>
+        ensures { IfOk result (λ p. (p ≡ length (written_all self.now.records.now)) × (string_bytes text.new ≡ string_bytes text.old ++ lines_of 0 0 self.now.records.now)) }
+    {
+        let mut place = 0;
+        for (number, record) in self.records.iter().enumerate() {
+            place = push_record(text, self.bytes, number, place, record.kind())?;
+        }
+        Ok(place)
     }
-    Ok(place)
+
+    // The listing of a whole sheet.
+    fn whole(&self, heap: Global) -> Result<String, AllocError>
+        ensures { IfOk result (λ t. string_bytes t ≡ lines_of 0 0 self.now.records.now ++ ok_line (length self.now.records.now) (length (written_all self.now.records.now))) }
+    {
+        let mut text = String::new(heap);
+        let place = self.push_records(&mut text)?;
+        let number = self.records.len();
+        push_line(&mut text, number, place, b'E', &[])?;
+        let count = number as u128 + 1;
+        writeln!(text, "sheet ok records {count}")?;
+        Ok(text)
+    }
+
+    // The listing of a sheet that has a fault after these records.
+    fn faulty(&self, heap: Global, fault: Fault) -> Result<String, AllocError>
+        ensures { IfOk result (λ t. string_bytes t ≡ lines_of 0 0 self.now.records.now ++ (text_of fault ++ codes "\n")) }
+    {
+        let mut text = String::new(heap);
+        self.push_records(&mut text)?;
+        writeln!(text, "{fault}")?;
+        Ok(text)
+    }
 }
 
 /// Lists the sheet in the bytes: each record before the end or the first fault, and the outcome.
@@ -73,38 +105,11 @@ pub fn listing(heap: Global, bytes: &[u8]) -> Result<String, AllocError>
 {
     let mut records = Vec::new(heap);
     let outcome = read_records(bytes, heap, &mut records);
+    let records = records.as_slice();
     match outcome {
-        Ok(_) => whole_listing(heap, bytes, records.as_slice()),
-        Err(Failure::Fault(fault)) => faulty_listing(heap, bytes, records.as_slice(), fault),
+        Ok(_) => ReadRecords { bytes, records }.whole(heap),
+        Err(Failure::Fault(fault)) => ReadRecords { bytes, records }.faulty(heap, fault),
         // Want of memory has no value to pass on.
         Err(Failure::Memory) => Err(AllocError),
     }
-}
-
-fn whole_listing(heap: Global, bytes: &[u8], records: &[Record]) -> Result<String, AllocError>
-    requires { Front bytes.now records.now }
-    ensures { IfOk result (λ t. string_bytes t ≡ lines_of 0 0 records.now ++ ok_line (length records.now) (length (written_all records.now))) }
-{
-    let mut text = String::new(heap);
-    let place = push_records(&mut text, bytes, records)?;
-    let number = records.len();
-    push_line(&mut text, number, place, b'E', &[])?;
-    let count = number as u128 + 1;
-    writeln!(text, "sheet ok records {count}")?;
-    Ok(text)
-}
-
-fn faulty_listing(
-    heap: Global,
-    bytes: &[u8],
-    records: &[Record],
-    fault: Fault,
-) -> Result<String, AllocError>
-    requires { Front bytes.now records.now }
-    ensures { IfOk result (λ t. string_bytes t ≡ lines_of 0 0 records.now ++ (text_of fault ++ codes "\n")) }
-{
-    let mut text = String::new(heap);
-    push_records(&mut text, bytes, records)?;
-    writeln!(text, "{fault}")?;
-    Ok(text)
 }

@@ -1,8 +1,7 @@
 use Rattle.std.proofs.Common.{◌≡◌, ℕ, List, ◌++◌, length, take, vec_items, sym, ap, ◌∙◌, ap₂, rules, arith}
 use Rattle.std.proofs.lemmas.List.{length-take-le}
 use Rattle.sheet.specs.View.{sheet_of}
-use Rattle.sheet.proofs.Fewness.{few_bits}
-use Rattle.bench.proofs.Going.{few_readings}
+use Rattle.sheet.proofs.Fewness.{few_bits, few_readings}
 use Rattle.bench.specs.Outcome.{last_of}
 use Rattle.bench_text.specs.Lines.{last_line}
 use Rattle.bench_text.proofs.Lasting.{numbers_of, last-unwrap_or, ran_text}

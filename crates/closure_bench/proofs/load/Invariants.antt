@@ -1,5 +1,5 @@
 use Rattle.std.proofs.Common.{◌≤◌, length}
 use Rattle.closure_bench.proofs.load.Given as goal
 
-abbrev pub invariant-loop-entry : goal.invariant-loop-entry
-invariant-loop-entry l = l.used ≤ length l.conditions
+abbrev pub invariant-loop-kind : goal.invariant-loop-kind
+invariant-loop-kind l = l.used ≤ length l.conditions

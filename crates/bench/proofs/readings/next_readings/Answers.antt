@@ -3,9 +3,9 @@ use Rattle.sheet.specs.declared.syntax.Reading.{Reading}
 use Rattle.sheet.specs.Runs.{or_kept, numbered}
 use Rattle.sheet.specs.View.{sheet_of}
 use Rattle.sheet.proofs.Arrays.{begins}
+use Rattle.sheet.proofs.Fewness.{few_readings}
 use Rattle.sheet.proofs.Numbering.{numbered-length}
 use Rattle.bench.proofs.Filling.{begins_same}
-use Rattle.bench.proofs.Going.{few_readings}
 use Rattle.bench.proofs.readings.next_readings.Goals as goal
 
 pub returns : goal.returns

@@ -1,5 +1,6 @@
 use Rattle.std.proofs.Common.{◌/◌, ◌%◌, ◌^◌, false, eqb, rules, arith}
-use Rattle.candidates.proofs.Filling.{answers_from_bits, made}
+use Rattle.sheet.proofs.Arrays.{made}
+use Rattle.candidates.proofs.Filling.{answers_from_bits}
 use Rattle.candidates.proofs.answers.answers_of.Goals as goal
 
 pub returns : goal.returns

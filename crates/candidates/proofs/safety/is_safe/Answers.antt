@@ -1,13 +1,11 @@
 use Rattle.std.proofs.Common.{rules}
 use Rattle.sheet.specs.View.{sheet_of}
-use Rattle.sheet.proofs.Fewness.{few_claims}
 use Rattle.candidates.proofs.Verdicts.{judged_by, kept_after}
 use Rattle.candidates.proofs.safety.is_safe.Goals as goal
 
 pub judge-requires : goal.judge-requires
 judge-requires c =
     record {
-      claims = few_claims (sheet_of c.args.sheet.now) c.args.sheet.now.lawful;
       sound = rw c.new-guard.ensures.count (c.is_sound.ensures.0 c.if-not-is_sound.false);
       labelled = c.if-labels-lt-MOST_TERMS.false;
     }

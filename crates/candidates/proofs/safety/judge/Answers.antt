@@ -18,8 +18,8 @@ returns-in_err-list c =
     let claims = c.deref-claims.result.now in
     let claims_are = c.deref-claims.ensures.value in
     let given = c.over-given.result in
-    let first = take (length claims) c.answers_of.result in
-    let first_is = c.answers_of.ensures (length claims) (omega (arith, ap length claims_are, c.requires.claims)) ∙ ap (λ xs. branch_answers (length xs) 0) claims_are in
+    let first = take c.claims_of-asked.result c.answers_of.result in
+    let first_is = c.answers_of.ensures c.claims_of-asked.result (omega (arith, c.claims_of-asked.ensures.few)) ∙ ap (λ k. branch_answers k 0) c.claims_of-asked.ensures.number in
     let rs' = c.ask.new.memory.bank.now in
     let n' = c.ask.new.memory.count.now.terms in
     let h = claims_asked s rs n form c.requires.sound given.terms.now c.over-given.ensures.terms given.vector.now c.over-given.ensures.vector given.inputs.now c.over-given.ensures.inputs claims claims_are first first_is rs' n' c.ask.new.memory.known (Err c.in_err-list.field-0.0) c.in_err-list.ensures.conditions in
@@ -36,13 +36,13 @@ returns c =
     let claims = c.deref-claims.result.now in
     let claims_are = c.deref-claims.ensures.value in
     let given = c.over-given.result in
-    let first = take (length claims) c.answers_of.result in
-    let first_is = c.answers_of.ensures (length claims) (omega (arith, ap length claims_are, c.requires.claims)) ∙ ap (λ xs. branch_answers (length xs) 0) claims_are in
+    let first = take c.claims_of-asked.result c.answers_of.result in
+    let first_is = c.answers_of.ensures c.claims_of-asked.result (omega (arith, c.claims_of-asked.ensures.few)) ∙ ap (λ k. branch_answers k 0) c.claims_of-asked.ensures.number in
     let rs' = c.ask.new.memory.bank.now in
     let n' = c.ask.new.memory.count.now.terms in
     let list = c.in_ok-list.list in
     let h = claims_asked s rs n form c.requires.sound given.terms.now c.over-given.ensures.terms given.vector.now c.over-given.ensures.vector given.inputs.now c.over-given.ensures.inputs claims claims_are first first_is rs' n' c.ask.new.memory.known (Ok list) c.in_ok-list.ensures.conditions in
-    let laid = all_laid s rs n form c.requires.sound rs' n' h.0.extends (length claims) (ap length claims_are) list h.1 (take form.used form.conditions) refl c.append-conditions.result.list c.append-conditions.result.used c.append-conditions.ensures.used c.append-conditions.ensures.front c.append-conditions.ensures.back in
+    let laid = all_laid s rs n form c.requires.sound rs' n' h.0.extends c.claims_of-asked.result c.claims_of-asked.ensures.number list (λ k lt. h.1 k (omega (arith, ap length claims_are, c.claims_of-asked.ensures.number))) (take form.used form.conditions) refl c.append-conditions.result.list c.append-conditions.result.used c.append-conditions.ensures.used c.append-conditions.ensures.front c.append-conditions.ensures.back in
     let bits : row.bits ≡ take c.bits_of.result form.bits = ap (λ k. take k form.bits) (sym c.bits_of.ensures) in
     left (λ xs m. Added rs n (claim_terms s row) xs m (Unbroken s row) c.is_unbroken.result) rs' _ n' _ (search rules) (search rules)
     (searched_added s row rs n (claim_terms s row) rs' n' h.0 c.is_unbroken.result (c.is_unbroken.ensures row laid bits c.requires.labelled))

@@ -1,4 +1,4 @@
-use Rattle.std.proofs.Common.{◌≡◌, ◌<◌, [], map, length, get_or, take, sym, refl, ◌∙◌, subst, arith}
+use Rattle.std.proofs.Common.{◌≡◌, ◌<◌, map, length, get_or, take, sym, refl, ◌∙◌, subst, arith}
 use Rattle.std.proofs.lemmas.List.{length-map, get_or-map, length-set, take_all}
 use Rattle.sheet.specs.System.{no_reading}
 use Rattle.banks.specs.Gains.{Gained}
@@ -9,7 +9,7 @@ use Rattle.candidates.proofs.Listing.{added_break, placed_more, placed_break}
 use Rattle.candidates.proofs.starting.start_vector.Goals as goal
 
 pub loop-k-init : goal.loop-k-init
-loop-k-init c = (refl, λ started named. (walked_start [] [] [] [] c.args.bank.now c.args.count.now.terms [] (over_nothing c.args.bank.now c.args.count.now.terms) started, λ k lt. absurd (omega arith)))
+loop-k-init c = (refl, λ started named. (walked_start (over_nothing c.args.bank.now c.args.count.now.terms) started, λ k lt. absurd (omega arith)))
 
 pub returns-in_err-out : goal.returns-in_err-out
 returns-in_err-out c started named =
@@ -21,8 +21,8 @@ returns-in_err-out c started named =
     let is : t ≡ get_or all k no_term = sym (get_or-map start_of c.args.readings.now k no_reading no_term inside) in
     let w = c.loop-k.invariant.1 started named in
     let x = c.in_err-out.ensures w.0.started (named k inside) in
-    added_break c.args.bank.now c.args.count.now.terms all c.start_place.new.bank c.start_place.new.count.terms _ c.in_err-out.field-0.0 c.from_residual.result x.0
-    (placed_break [] [] [] [] c.args.bank.now c.args.count.now.terms k c.loop-k.bank c.loop-k.count.terms [] c.start_place.new.bank c.start_place.new.count.terms [] all t inside' is w.0 x.1 x.2) c.from_residual.ensures.1
+    added_break _ _ _ _ _ _ _ _ x.0
+    (placed_break all inside' is w.0 x.1 x.2) c.from_residual.ensures.1
 
 pub loop-k-preserved : goal.loop-k-preserved
 loop-k-preserved c = (
@@ -36,7 +36,7 @@ loop-k-preserved c = (
       let is : t ≡ get_or all k no_term = sym (get_or-map start_of c.args.readings.now k no_reading no_term inside) in
       let w = c.loop-k.invariant.1 started named in
       let x = c.in_ok-out.ensures w.0.started (named k inside) in
-      placed_more [] [] [] [] c.args.bank.now c.args.count.now.terms k c.loop-k.bank c.loop-k.count.terms [] c.start_place.new.bank c.start_place.new.count.terms [] all t inside' is w.0 c.loop-k.out c.in_ok-out.field-0 (omega (arith, c.loop-k.invariant.0)) w.1 c.start_place.auto.bank x.0 x.1,
+      placed_more all inside' is w.0 c.loop-k.out (omega (arith, c.loop-k.invariant.0)) w.1 c.start_place.auto.bank x.0 x.1,
 )
 
 pub returns : goal.returns

@@ -1,8 +1,8 @@
-use Rattle.std.proofs.Common.{◌≡◌, ◌+◌, vec_items, refl, ap, arith, rules}
+use Rattle.std.proofs.Common.{◌≡◌, vec_items, refl, arith, rules}
 use Rattle.sheet.specs.declared.kind.Kind.{Kind}
-use Rattle.sheet.specs.Format.{body_length}
 use Rattle.reader.specs.Progress.{KindAt}
-use Rattle.reader.proofs.Progressing.{no_kind, refused_at, good_at, addable, next, body_taken}
+use Rattle.reader.proofs.Progressing.{no_kind, refused_at, good_at, next}
+use Rattle.reader.proofs.Judgement.{obeys-keeps}
 use Rattle.reader.proofs.reading.advance.Goals as goal
 
 pub returns-in_err-kind : goal.returns-in_err-kind
@@ -14,21 +14,17 @@ returns-in_err-record c =
     let k = c.in_ok-kind.kind in
     let here : KindAt c.args.bytes.now c.args.place.byte k = search rules in
     let inside : k ≡ Kind.End → ⊥ = search rules in
-    let is_b = body_taken c.args.bytes.now (c.args.place.byte + 1) c.body_length.result (body_length k) c.body_length.ensures in
-    search (rules, refused_at c.args.bytes.now c.args.place c.args.draft.now (vec_items c.args.records.now) c.requires k here _ is_b inside)
+    search (rules, refused_at c.args.bytes.now c.args.place c.args.draft.now (vec_items c.args.records.now) c.requires k here _ c.body_length.ensures inside)
 
 pub add-requires : goal.add-requires
 add-requires c =
     let k = c.in_ok-kind.kind in
     let here : KindAt c.args.bytes.now c.args.place.byte k = search rules in
-    let is_b = body_taken c.args.bytes.now (c.args.place.byte + 1) c.body_length.result (body_length k) c.body_length.ensures in
-    let good = good_at c.args.bytes.now c.args.place c.args.draft.now (vec_items c.args.records.now) c.requires k here _ is_b c.in_ok-record.record (search rules) in
-    record { room = good.allowed.room; kept = addable c.args.bytes.now c.args.place c.args.draft.now (vec_items c.args.records.now) c.requires k here _ is_b c.in_ok-record.record good }
+    let good = good_at c.args.bytes.now c.args.place c.args.draft.now (vec_items c.args.records.now) c.requires k here _ c.body_length.ensures c.in_ok-record.record (search rules) in
+    record { room = good.allowed.room; kept = search (rules, obeys-keeps, good.allowed.obeys) }
 
 pub returns : goal.returns
 returns c =
     let k = c.in_ok-kind.kind in
     let here : KindAt c.args.bytes.now c.args.place.byte k = search rules in
-    let is_b = body_taken c.args.bytes.now (c.args.place.byte + 1) c.body_length.result (body_length k) c.body_length.ensures in
-    let good = good_at c.args.bytes.now c.args.place c.args.draft.now (vec_items c.args.records.now) c.requires k here _ is_b c.in_ok-record.record (search rules) in
-    (next c.args.bytes.now c.args.place c.args.draft.now (vec_items c.args.records.now) c.requires k here _ is_b c.in_ok-record.record c.add.new.self (vec_items c.push.new.self) _ good c.in_ok-add.ensures c.in_ok-push.ensures.items refl (ap (λ n. c.args.place.byte + 1 + n) c.body_length.ensures), omega arith, omega (arith, here.whole, c.body_length.ensures))
+    (next c.args.bytes.now c.args.place c.args.draft.now (vec_items c.args.records.now) c.requires k here _ c.body_length.ensures c.in_ok-record.record c.add.new.self (vec_items c.push.new.self) _ (search rules) c.in_ok-add.ensures c.in_ok-push.ensures.items refl refl, omega arith, omega (arith, here.whole, c.body_length.ensures))

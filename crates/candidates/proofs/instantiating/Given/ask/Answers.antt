@@ -22,8 +22,8 @@ returns-in_err-list-clause-conditions c v over started =
     let is : l ≡ get_or all i no_literal = ap (literal_for values (get_or c.args.questions.now i no_equation)) c.at_or-answer.ensures ∙ sym (numbered_at (condition_of values c.args.answers.now) c.args.questions.now i no_literal no_equation inside) in
     let w = c.loop-i.invariant.2 v over started in
     let x = c.in_err-list.ensures.condition v w.0.over w.0.started in
-    added_break c.args.memory.now.bank.now c.args.memory.now.count.now.terms (sides_of all) c.condition_of.new.memory.bank.now c.condition_of.new.memory.count.now.terms _ c.in_err-list.field-0.0 c.from_residual.result x.0
-    (asked_break values v c.args.self.vector.now c.args.self.inputs.now c.args.memory.now.bank.now c.args.memory.now.count.now.terms i c.loop-i.memory.bank.now c.loop-i.memory.count.now.terms c.loop-i.memory.known c.condition_of.new.memory.bank.now c.condition_of.new.memory.count.now.terms c.condition_of.new.memory.known all l inside' is w.0 x.1 x.2) c.from_residual.ensures.1
+    added_break _ _ _ _ _ _ _ _ x.0
+    (asked_break all inside' is w.0 x.1 x.2) c.from_residual.ensures.1
 
 pub loop-i-preserved : goal.loop-i-preserved
 loop-i-preserved c = (
@@ -39,7 +39,7 @@ loop-i-preserved c = (
       let is : l ≡ get_or all i no_literal = ap (literal_for values (get_or c.args.questions.now i no_equation)) c.at_or-answer.ensures ∙ sym (numbered_at (condition_of values c.args.answers.now) c.args.questions.now i no_literal no_equation inside) in
       let w = c.loop-i.invariant.2 v over started in
       let x = c.in_ok-list.ensures.condition v w.0.over w.0.started in
-      asked_more values v c.args.self.vector.now c.args.self.inputs.now c.args.memory.now.bank.now c.args.memory.now.count.now.terms i c.loop-i.memory.bank.now c.loop-i.memory.count.now.terms c.loop-i.memory.known c.condition_of.new.memory.bank.now c.condition_of.new.memory.count.now.terms c.condition_of.new.memory.known all l inside' is w.0 c.loop-i.list c.in_ok-list.field-0 (omega (arith, c.loop-i.invariant.0)) w.1 c.condition_of.ensures.lent.2 x.0 x.1,
+      asked_more all inside' is w.0 c.loop-i.list (omega (arith, c.loop-i.invariant.0)) w.1 c.condition_of.ensures.lent.2 x.0 x.1,
 )
 
 pub returns-clause-conditions : goal.returns-clause-conditions

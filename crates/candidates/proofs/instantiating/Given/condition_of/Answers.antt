@@ -10,23 +10,23 @@ returns-in_err-right-clause-condition c v over started =
     let values = terms_over v c.args.self.inputs.now (map term_in c.args.self.terms.now) in
     let left = get_or values c.args.equation.left no_term in
     let right = get_or values c.args.equation.right no_term in
-    let w₀ = walked_start values v c.args.self.vector.now c.args.self.inputs.now c.args.memory.now.bank.now c.args.memory.now.count.now.terms c.args.memory.now.known over started in
+    let w₀ = walked_start over started in
     let h = c.in_ok-left.ensures.place v over started in
-    let w₁ = walked_more values v c.args.self.vector.now c.args.self.inputs.now c.args.memory.now.bank.now c.args.memory.now.bank.now c.args.memory.now.count.now.terms c.args.memory.now.count.now.terms [] c.args.memory.now.known w₀ c.place_of.new.memory.bank.now c.place_of.new.memory.count.now.terms (left ∷ []) c.place_of.new.memory.known c.place_of.ensures.lent.2 h.0 h.1.recalled in
+    let w₁ = walked_more w₀ c.place_of.ensures.lent.2 h.0 h.1 in
     let x = c.in_err-right.ensures.place v w₁.over w₁.started in
     added_break c.args.memory.now.bank.now c.args.memory.now.count.now.terms (left ∷ right ∷ []) c.place_of-2.new.memory.bank.now c.place_of-2.new.memory.count.now.terms _ c.in_err-right.field-0.0 c.from_residual-in_err-right.result x.0
-    (walked_refused values v c.args.self.vector.now c.args.self.inputs.now c.args.memory.now.bank.now c.place_of.new.memory.bank.now c.args.memory.now.count.now.terms c.place_of.new.memory.count.now.terms (left ∷ []) c.place_of.new.memory.known w₁ c.place_of-2.new.memory.bank.now c.place_of-2.new.memory.count.now.terms (right ∷ []) (left ∷ right ∷ []) (λ all u. u) x.1 x.2) c.from_residual-in_err-right.ensures.1
+    (walked_refused w₁ (right ∷ []) (left ∷ right ∷ []) (λ all u. u) x.1 x.2) c.from_residual-in_err-right.ensures.1
 
 pub returns-clause-condition : goal.returns-clause-condition
 returns-clause-condition c v over started =
     let values = terms_over v c.args.self.inputs.now (map term_in c.args.self.terms.now) in
     let left = get_or values c.args.equation.left no_term in
     let right = get_or values c.args.equation.right no_term in
-    let w₀ = walked_start values v c.args.self.vector.now c.args.self.inputs.now c.args.memory.now.bank.now c.args.memory.now.count.now.terms c.args.memory.now.known over started in
+    let w₀ = walked_start over started in
     let h = c.in_ok-left.ensures.place v over started in
-    let w₁ = walked_more values v c.args.self.vector.now c.args.self.inputs.now c.args.memory.now.bank.now c.args.memory.now.bank.now c.args.memory.now.count.now.terms c.args.memory.now.count.now.terms [] c.args.memory.now.known w₀ c.place_of.new.memory.bank.now c.place_of.new.memory.count.now.terms (left ∷ []) c.place_of.new.memory.known c.place_of.ensures.lent.2 h.0 h.1.recalled in
+    let w₁ = walked_more w₀ c.place_of.ensures.lent.2 h.0 h.1 in
     let k = c.in_ok-right.ensures.place v w₁.over w₁.started in
-    let w₂ = walked_more values v c.args.self.vector.now c.args.self.inputs.now c.args.memory.now.bank.now c.place_of.new.memory.bank.now c.args.memory.now.count.now.terms c.place_of.new.memory.count.now.terms (left ∷ []) c.place_of.new.memory.known w₁ c.place_of-2.new.memory.bank.now c.place_of-2.new.memory.count.now.terms (right ∷ []) c.place_of-2.new.memory.known c.place_of-2.ensures.lent.2 k.0 k.1.recalled in
+    let w₂ = walked_more w₁ c.place_of-2.ensures.lent.2 k.0 k.1 in
     let x = k.0.extends in (
       w₂.gained,
       record {

@@ -26,8 +26,8 @@ returns-in_err-out-clause-places c v over started =
     let is : t ≡ get_or all k no_term = sym (numbered_at f c.args.readings.now k no_term no_reading inside) in
     let w = c.loop-k.invariant.2 v over started in
     let x = c.in_err-out.ensures.place v w.0.over w.0.started in
-    added_break c.args.memory.now.bank.now c.args.memory.now.count.now.terms all c.next_place.new.memory.bank.now c.next_place.new.memory.count.now.terms _ c.in_err-out.field-0.0 c.from_residual.result x.0
-    (placed_break values v c.args.self.vector.now c.args.self.inputs.now c.args.memory.now.bank.now c.args.memory.now.count.now.terms k c.loop-k.memory.bank.now c.loop-k.memory.count.now.terms c.loop-k.memory.known c.next_place.new.memory.bank.now c.next_place.new.memory.count.now.terms c.next_place.new.memory.known all t inside' is w.0 x.1 x.2) c.from_residual.ensures.1
+    added_break _ _ _ _ _ _ _ _ x.0
+    (placed_break all inside' is w.0 x.1 x.2) c.from_residual.ensures.1
 
 pub loop-k-preserved : goal.loop-k-preserved
 loop-k-preserved c = (
@@ -45,7 +45,7 @@ loop-k-preserved c = (
       let is : t ≡ get_or all k no_term = sym (numbered_at f c.args.readings.now k no_term no_reading inside) in
       let w = c.loop-k.invariant.2 v over started in
       let x = c.in_ok-out.ensures.place v w.0.over w.0.started in
-      placed_more values v c.args.self.vector.now c.args.self.inputs.now c.args.memory.now.bank.now c.args.memory.now.count.now.terms k c.loop-k.memory.bank.now c.loop-k.memory.count.now.terms c.loop-k.memory.known c.next_place.new.memory.bank.now c.next_place.new.memory.count.now.terms c.next_place.new.memory.known all t inside' is w.0 c.loop-k.out c.in_ok-out.field-0 (omega (arith, c.loop-k.invariant.0)) w.1 c.next_place.ensures.lent.2 x.0 x.1,
+      placed_more all inside' is w.0 c.loop-k.out (omega (arith, c.loop-k.invariant.0)) w.1 c.next_place.ensures.lent.2 x.0 x.1,
 )
 
 pub returns-clause-places : goal.returns-clause-places

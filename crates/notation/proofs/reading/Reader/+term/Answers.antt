@@ -7,10 +7,10 @@ use Rattle.terms.proofs.Filing.{extends_more}
 use Rattle.notation.proofs.Shapes.{unary_read, binary_read, ternary_read}
 use Rattle.notation.proofs.reading.Reader.+term.Goals as goal
 
-pub returns-in-Some-after-3 : goal.returns-in-Some-after-3
-returns-in-Some-after-3 t c =
-    let f = c.in-Some-number.f in
-    let done = c.finish-in-Some-after-3 in
+pub returns-in-Some-after-2 : goal.returns-in-Some-after-2
+returns-in-Some-after-2 t c =
+    let f = c.in_ok-f.f in
+    let done = c.finish-in-Some-after-2 in
     let a = c.in_ok-a.a in
     let read_a = c.in_ok-a.ensures.term in
     record {
@@ -18,15 +18,15 @@ returns-in-Some-after-3 t c =
       term = MatchResult-weaker done.result done.ensures.term
           (λ p h. (
             h.0,
-            unary_read f (term_at c.term.new.self.bank a) (term_at done.new.self.bank p.0) _ _ _ _ _ _ c.in-Some-after.ensures c.in-Some-number.ensures c.in-Some-after-2.ensures read_a.1 c.in-Some-after-3.ensures h.1
+            unary_read f (term_at c.term.new.self.bank a) (term_at done.new.self.bank p.0) _ _ _ _ _ _ (rw c.in_ok-rest.ensures.ok_part at c.after-2.ensures) (rw c.in_ok-f.ensures.ok_part at c.number.ensures) c.in-Some-after.ensures read_a.1 c.in-Some-after-2.ensures h.1
                 ∙ ap (λ u. written (term_at done.new.self.bank p.0) ++ u) (sym h.2),
           )) (λ e u. u);
     }
 
-pub returns-in-Some-after-5 : goal.returns-in-Some-after-5
-returns-in-Some-after-5 t c =
-    let f = c.in-Some-number.f in
-    let done = c.finish-in-Some-after-5 in
+pub returns-in-Some-after-3 : goal.returns-in-Some-after-3
+returns-in-Some-after-3 t c =
+    let f = c.in_ok-f.f in
+    let done = c.finish-in-Some-after-3 in
     let rs = c.args.self.now.bank in
     let n = c.args.self.now.count.terms in
     let rs₁ = c.term.new.self.bank in
@@ -43,14 +43,14 @@ returns-in-Some-after-5 t c =
       term = MatchResult-weaker done.result done.ensures.term
           (λ p h. (
             h.0,
-            binary_read f (term_at rs₁ a) (term_at rs₂ b) (term_at done.new.self.bank p.0) _ _ _ _ _ _ _ _ c.in-Some-after.ensures c.in-Some-number.ensures c.in-Some-after-2.ensures read_a.1 c.in-Some-after-4.ensures read_b.1 c.in-Some-after-5.ensures (h.1 ∙ ap (λ u. binary f u (term_at rs₂ b)) a_stays)
+            binary_read f (term_at rs₁ a) (term_at rs₂ b) (term_at done.new.self.bank p.0) _ _ _ _ _ _ _ _ (rw c.in_ok-rest.ensures.ok_part at c.after-2.ensures) (rw c.in_ok-f.ensures.ok_part at c.number.ensures) c.in-Some-after.ensures read_a.1 (rw c.in_ok-rest-2.ensures.ok_part at c.after-5.ensures) read_b.1 c.in-Some-after-3.ensures (h.1 ∙ ap (λ u. binary f u (term_at rs₂ b)) a_stays)
                 ∙ ap (λ u. written (term_at done.new.self.bank p.0) ++ u) (sym h.2),
           )) (λ e u. u);
     }
 
 pub returns : goal.returns
 returns t c =
-    let f = c.in-Some-number.f in
+    let f = c.in_ok-f.f in
     let done = c.finish-2 in
     let rs = c.args.self.now.bank in
     let n = c.args.self.now.count.terms in
@@ -74,7 +74,7 @@ returns t c =
       term = MatchResult-weaker done.result done.ensures.term
           (λ p h. (
             h.0,
-            ternary_read f (term_at rs₁ a) (term_at rs₂ b) (term_at rs₃ d) (term_at done.new.self.bank p.0) _ _ _ _ _ _ _ _ _ _ c.in-Some-after.ensures c.in-Some-number.ensures c.in-Some-after-2.ensures read_a.1 c.in-Some-after-4.ensures read_b.1 c.in-Some-after-6.ensures read_c.1 c.in-Some-after-7.ensures (h.1 ∙ (ap (λ u. ternary f u (term_at rs₃ b) (term_at rs₃ d)) a_stays ∙ ap (λ u. ternary f (term_at rs₁ a) u (term_at rs₃ d)) b_stays))
+            ternary_read f (term_at rs₁ a) (term_at rs₂ b) (term_at rs₃ d) (term_at done.new.self.bank p.0) _ _ _ _ _ _ _ _ _ _ (rw c.in_ok-rest.ensures.ok_part at c.after-2.ensures) (rw c.in_ok-f.ensures.ok_part at c.number.ensures) c.in-Some-after.ensures read_a.1 (rw c.in_ok-rest-2.ensures.ok_part at c.after-5.ensures) read_b.1 (rw c.in_ok-rest-3.ensures.ok_part at c.after-7.ensures) read_c.1 (rw c.in_ok-rest-4.ensures.ok_part at c.after-8.ensures) (h.1 ∙ (ap (λ u. ternary f u (term_at rs₃ b) (term_at rs₃ d)) a_stays ∙ ap (λ u. ternary f (term_at rs₁ a) u (term_at rs₃ d)) b_stays))
                 ∙ ap (λ u. written (term_at done.new.self.bank p.0) ++ u) (sym h.2),
           )) (λ e u. u);
     }

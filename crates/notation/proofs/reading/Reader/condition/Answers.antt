@@ -18,6 +18,6 @@ returns c =
       line = (
         omega (arith, read_left.0, grown.more),
         read_right.0,
-        line_read (term_at rs₂ c.in_ok-left.left) (term_at rs₂ c.in_ok-right.right) c.in-Some.sign c.args.text.now c.in_ok-left.rest.now c.in-Some.rest.now c.in_ok-right.rest.now c.in-Some-after.rest.now (read_left.1 ∙ ap (λ u. written u ++ c.in_ok-left.rest.now) (sym stays)) c.in-Some.ensures read_right.1 c.in-Some-after.ensures,
+        line_read (term_at rs₂ c.in_ok-left.left) (term_at rs₂ c.in_ok-right.right) c.in_ok-sign.sign c.args.text.now c.in_ok-left.rest.now c.in_ok-sign.rest.now c.in_ok-right.rest.now c.in_ok-rest.rest.now (read_left.1 ∙ ap (λ u. written u ++ c.in_ok-left.rest.now) (sym stays)) (rw c.in_ok-sign.ensures.ok_part at c.sign.ensures) read_right.1 (rw c.in_ok-rest.ensures.ok_part at c.after.ensures),
       );
     }
