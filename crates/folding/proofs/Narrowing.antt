@@ -1,6 +1,6 @@
 -- Narrowing: tests one after another, and what the walk over two terms learns at each node.
 use Rattle.std.proofs.Common.{◌≡◌, ℕ, zero, suc, ◌+◌, ◌<◌, ◌≤◌, Bool, true, false, eqb, List, [], ◌∷◌, length, get_or, set, replicate, Some, None, Option, unwrap_or, sym, refl, ap, ◌∙◌, subst, ⊎_elim, arith, lit<}
-use Rattle.std.proofs.lemmas.List.{get_or-set_same, get_or-set_other, get_or_past}
+use Rattle.std.proofs.lemmas.List.{get_or-set_same, get_or-set_other, get_or_past, set-get_or}
 use Rattle.std.proofs.lemmas.Bool.{cases_eq, cases_lt, eqb-true, eq-eqb, true≢false}
 use Rattle.terms.specs.declared.Node.{Node}
 use Rattle.terms.specs.declared.Node.TheVariants.{Name, Unary, Binary, Ternary}
@@ -36,6 +36,20 @@ narrowed_bound to x y lt free f = (
 
 pub stronger_bound : (to : List (Option ℕ)) (x y : ℕ) → x < length to → get_or to x None ≡ None → Stronger to (set to x (Some y))
 stronger_bound to x y lt free f h = ((narrowed_bound to x y lt free f).0 h).0
+
+-- a binding that is there, or is made
+module _ (to : List (Option ℕ)) (x y : ℕ) (inside : x < length to) where
+  kept : (v : ℕ) → get_or to x None ≡ Some v → to ≡ set to x (Some v)
+  kept v is = sym (ap (set to x) (sym is) ∙ set-get_or to x None)
+
+  pub narrowed_held : (o : Option ℕ) → get_or to x None ≡ o → Narrowed to (set to x (Some (unwrap_or o y))) (λ f. f x ≡ y) (eqb (unwrap_or o y) y)
+  narrowed_held None is = subst (Narrowed to (set to x (Some y)) (λ f. f x ≡ y)) (sym (eq-eqb y y refl)) (narrowed_bound to x y inside is)
+  narrowed_held (Some v) is =
+      subst (λ l. Narrowed to l (λ f. f x ≡ y) (eqb v y)) (kept v is) (narrowed_tested to (λ f. f x ≡ y) (eqb v y) (λ t f h. h x v is ∙ eqb-true v y t) (λ f h p. eq-eqb v y (sym (h x v is) ∙ p)))
+
+  pub stronger_held : (o : Option ℕ) → get_or to x None ≡ o → Stronger to (set to x (Some (unwrap_or o y)))
+  stronger_held None is = stronger_bound to x y inside is
+  stronger_held (Some v) is = subst (Stronger to) (kept v is) (λ f h. h)
 
 -- one test after another
 module _ (to to' to'' : List (Option ℕ)) (P Q : (ℕ → ℕ) → Type 0) where

@@ -33,6 +33,7 @@ impl Node {
     }
 }
 
+// The count comes beside the bank, since what is promised of a search is said of both.
 fn find(bank: &[TermRecord], terms: usize, node: Node) -> Option<usize>
     requires { terms ≤ length bank.now }
     ensures { MatchOption result (Lacks bank.now terms node) (λ i. (i < terms) × (node_at bank.now i ≡ node)) }
