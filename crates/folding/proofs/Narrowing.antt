@@ -2,6 +2,8 @@
 use Rattle.std.proofs.Common.{◌≡◌, ℕ, zero, suc, ◌+◌, ◌<◌, ◌≤◌, Bool, true, false, eqb, List, [], ◌∷◌, length, get_or, set, replicate, Some, None, Option, unwrap_or, sym, refl, ap, ◌∙◌, subst, ⊎_elim, arith, lit<}
 use Rattle.std.proofs.lemmas.List.{get_or-set_same, get_or-set_other, get_or_past}
 use Rattle.std.proofs.lemmas.Bool.{cases_eq, cases_lt, eqb-true, eq-eqb, true≢false}
+use Rattle.std.proofs.lemmas.Option.{none-some, same_Some}
+use Rattle.sheet.proofs.Memos.{nones}
 use Rattle.terms.specs.declared.Node.{Node}
 use Rattle.terms.specs.declared.Node.TheVariants.{Name, Unary, Binary, Ternary}
 use Rattle.terms.specs.declared.TermRecord.{TermRecord}
@@ -10,17 +12,6 @@ use Rattle.terms.specs.Bank.{Bank, Ordered, node_at, term_of, term_at}
 use Rattle.terms.proofs.Standing.{term_at-ordered}
 use Rattle.folding.specs.Pairing.{Respects, Stronger, Renames, RenamesEach, Narrowed, Pictured}
 
-some_same : (a b : ℕ) → ◌≡◌ {A = Option ℕ} (Some a) (Some b) → a ≡ b
-some_same a b e = cc
-
-none_some : (o : Option ℕ) (b : ℕ) → o ≡ None → o ≡ Some b → ⊥
-none_some o b p q = let z : ◌≡◌ {A = ℕ} 0 1 = cc in omega arith
-
-get_or-none_inside : (k i : ℕ) → ◌≡◌ {A = Option ℕ} (get_or (replicate k None) i None) None
-get_or-none_inside zero i = refl
-get_or-none_inside (suc k) zero = refl
-get_or-none_inside (suc k) (suc i) = get_or-none_inside k i
-
 -- a test that binds nothing
 pub narrowed_tested : (to : List (Option ℕ)) (Passes : (ℕ → ℕ) → Type 0) (b : Bool) → (b ≡ true → (f : ℕ → ℕ) → Respects f to → Passes f) → ((f : ℕ → ℕ) → Respects f to → Passes f → b ≡ true) → Narrowed to to Passes b
 narrowed_tested to Passes true yes' only = λ f. (λ h. (h, yes' refl f h), λ h p. h)
@@ -28,9 +19,9 @@ narrowed_tested to Passes false yes' only = λ f h p. true≢false (sym (only f 
 
 pub narrowed_bound : (to : List (Option ℕ)) (x y : ℕ) → x < length to → get_or to x None ≡ None → Narrowed to (set to x (Some y)) (λ f. f x ≡ y) true
 narrowed_bound to x y lt free f = (
-  λ h. (λ k v e. ⊎_elim (λ same. absurd (none_some (get_or to k None) v (ap (λ m. get_or to m None) same ∙ free) e)) (λ other. h k v (get_or-set_other to x k (Some y) None other ∙ e)) (cases_eq k x), h x y (get_or-set_same to x (Some y) None lt)),
+  λ h. (λ k v e. ⊎_elim (λ same. absurd (none-some v (sym (ap (λ m. get_or to m None) same ∙ free) ∙ e))) (λ other. h k v (get_or-set_other to x k (Some y) None other ∙ e)) (cases_eq k x), h x y (get_or-set_same to x (Some y) None lt)),
   λ h p k v e. ⊎_elim
-      (λ same. ap f same ∙ (p ∙ some_same y v (sym (get_or-set_same to x (Some y) None lt) ∙ (ap (λ m. get_or (set to x (Some y)) m None) (sym same) ∙ e))))
+      (λ same. ap f same ∙ (p ∙ same_Some y v (sym (get_or-set_same to x (Some y) None lt) ∙ (ap (λ m. get_or (set to x (Some y)) m None) (sym same) ∙ e))))
       (λ other. h k v (sym (get_or-set_other to x k (Some y) None other) ∙ e)) (cases_eq k x),
 )
 
@@ -61,7 +52,7 @@ pictured_more rs n image to i j lt below here p =
     }
   where
     fresh : (k m : ℕ) → get_or (set image i (Some j)) k None ≡ Some m → k ≡ i → j ≡ m
-    fresh k m e same = some_same j m (sym (get_or-set_same image i (Some j) None lt) ∙ (ap (λ l. get_or (set image i (Some j)) l None) (sym same) ∙ e))
+    fresh k m e same = same_Some j m (sym (get_or-set_same image i (Some j) None lt) ∙ (ap (λ l. get_or (set image i (Some j)) l None) (sym same) ∙ e))
 
     moved : (k m : ℕ) (f : ℕ → ℕ) → i ≡ k → j ≡ m → Renames rs i j f → Renames rs k m f
     moved k m f p q e = ap (λ l. renamed f (term_at rs l)) (sym p) ∙ (e ∙ ap (term_at rs) q)
@@ -70,18 +61,18 @@ pictured_more rs n image to i j lt below here p =
 pub pictured_none : (rs : List TermRecord) (n k m : ℕ) → Pictured rs n (replicate k None) (replicate m None)
 pictured_none rs n k m =
     record {
-      inside = λ i j e. absurd (none_some (get_or (replicate k None) i None) j (get_or-none_inside k i) e);
-      renames = λ i j e. absurd (none_some (get_or (replicate k None) i None) j (get_or-none_inside k i) e);
-      named = λ x y e. absurd (none_some (get_or (replicate m None) x None) y (get_or-none_inside m x) e);
+      inside = λ i j e. absurd (none-some j (sym (nones k i) ∙ e));
+      renames = λ i j e. absurd (none-some j (sym (nones k i) ∙ e));
+      named = λ x y e. absurd (none-some y (sym (nones m x) ∙ e));
     }
 
 pub respects_none : (f : ℕ → ℕ) (m : ℕ) → Respects f (replicate m None)
-respects_none f m x y e = absurd (none_some (get_or (replicate m None) x None) y (get_or-none_inside m x) e)
+respects_none f m x y e = absurd (none-some y (sym (nones m x) ∙ e))
 
 -- the list of what names are bound to, with 0 where they are not
 module _ (list : List ℕ) (to : List (Option ℕ)) (short : length list ≡ 32) (long : length to ≡ 32) (is : (k : ℕ) → k < 32 → get_or list k 0 ≡ unwrap_or (get_or to k None) 0) where
   bound_at : (x y : ℕ) → get_or to x None ≡ Some y → x < 32
-  bound_at x y e = ⊎_elim (λ lt. lt) (λ past. absurd (none_some (get_or to x None) y (get_or_past to x None (omega arith)) e)) (cases_lt x 32)
+  bound_at x y e = ⊎_elim (λ lt. lt) (λ past. absurd (none-some y (sym (get_or_past to x None (omega arith)) ∙ e))) (cases_lt x 32)
 
   pub respects_listed : Respects (λ x. get_or list x 0) to
   respects_listed x y e = is x (bound_at x y e) ∙ ap (λ o. unwrap_or o 0) e

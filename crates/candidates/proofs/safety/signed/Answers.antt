@@ -3,7 +3,7 @@ use Rattle.std.proofs.lemmas.List.{get_or-set_other, length-set}
 use Rattle.terms.specs.declared.Condition.{Condition}
 use Rattle.closure.specs.Labels.{no_condition}
 use Rattle.candidates.specs.Cases.{with_answer}
-use Rattle.candidates.proofs.Listing.{set_more}
+use Rattle.sheet.proofs.Arrays.{set_more}
 use Rattle.candidates.proofs.Judging.{answered}
 use Rattle.candidates.proofs.safety.signed.Goals as goal
 
