@@ -115,31 +115,32 @@ each_three : (at : ℕ → Term) (f : ℕ → ℕ) (a b c d e g : ℕ) → renam
 each_three at f a b c d e g p q r zero lt = p
 each_three at f a b c d e g p q r (suc m) lt = each_two at f b c e g q r m (omega arith)
 
-module _ (rs : List TermRecord) (n : ℕ) (o : Ordered rs n) (i j : ℕ) (p : i < n) (q : j < n) (to to' : List (Option ℕ)) (r : Bool) where
-  there : (u v : Node) → node_at rs i ≡ u → node_at rs j ≡ v → (f : ℕ → ℕ) → renamed f (term_of (term_at rs) u) ≡ term_of (term_at rs) v → Renames rs i j f
-  there u v is js f e = ap (renamed f) (term_at-ordered rs n o i p ∙ ap (term_of (term_at rs)) is) ∙ (e ∙ sym (term_at-ordered rs n o j q ∙ ap (term_of (term_at rs)) js))
+module _ {rs : List TermRecord} {n : ℕ} (o : Ordered rs n) {i j : ℕ} (p : i < n) (q : j < n) where
+  there : {u v : Node} → node_at rs i ≡ u → node_at rs j ≡ v → (f : ℕ → ℕ) → renamed f (term_of (term_at rs) u) ≡ term_of (term_at rs) v → Renames rs i j f
+  there is js f e = ap (renamed f) (term_at-ordered rs n o i p ∙ ap (term_of (term_at rs)) is) ∙ (e ∙ sym (term_at-ordered rs n o j q ∙ ap (term_of (term_at rs)) js))
 
-  back : (u v : Node) → node_at rs i ≡ u → node_at rs j ≡ v → (f : ℕ → ℕ) → Renames rs i j f → renamed f (term_of (term_at rs) u) ≡ term_of (term_at rs) v
-  back u v is js f e = sym (ap (renamed f) (term_at-ordered rs n o i p ∙ ap (term_of (term_at rs)) is)) ∙ (e ∙ (term_at-ordered rs n o j q ∙ ap (term_of (term_at rs)) js))
+  back : {u v : Node} → node_at rs i ≡ u → node_at rs j ≡ v → (f : ℕ → ℕ) → Renames rs i j f → renamed f (term_of (term_at rs) u) ≡ term_of (term_at rs) v
+  back is js f e = sym (ap (renamed f) (term_at-ordered rs n o i p ∙ ap (term_of (term_at rs)) is)) ∙ (e ∙ (term_at-ordered rs n o j q ∙ ap (term_of (term_at rs)) js))
 
-  pub narrowed_name : (x y : ℕ) → node_at rs i ≡ Name x → node_at rs j ≡ Name y → Narrowed to to' (λ f. f x ≡ y) r → Narrowed to to' (Renames rs i j) r
-  narrowed_name x y is js h =
-      narrowed_as to to' (λ f. f x ≡ y) (Renames rs i j) r h (λ f e. there (Name x) (Name y) is js f (ap name e)) (λ f e. (let z = back (Name x) (Name y) is js f e in cc))
+  module _ (to to' : List (Option ℕ)) (r : Bool) where
+    pub narrowed_name : {x y : ℕ} → node_at rs i ≡ Name x → node_at rs j ≡ Name y → Narrowed to to' (λ f. f x ≡ y) r → Narrowed to to' (Renames rs i j) r
+    narrowed_name {x} {y} is js h =
+        narrowed_as to to' (λ f. f x ≡ y) (Renames rs i j) r h (λ f e. there is js f (ap name e)) (λ f e. (let z = back is js f e in cc))
 
-  pub narrowed_unary : (s t a d : ℕ) → node_at rs i ≡ Unary s a → node_at rs j ≡ Unary t d → s ≡ t → Narrowed to to' (RenamesEach rs (a ∷ []) (d ∷ []) 1) r → Narrowed to to' (Renames rs i j) r
-  narrowed_unary s t a d is js same h =
-      narrowed_as to to' (RenamesEach rs (a ∷ []) (d ∷ []) 1) (Renames rs i j) r h
-      (λ f w. (let w0 = w 0 (lit< tt) in there (Unary s a) (Unary t d) is js f (cc)))
-      (λ f w. (let z = back (Unary s a) (Unary t d) is js f w in each_one (term_at rs) f a d (cc)))
+    pub narrowed_unary : {s t a d : ℕ} → node_at rs i ≡ Unary s a → node_at rs j ≡ Unary t d → s ≡ t → Narrowed to to' (RenamesEach rs (a ∷ []) (d ∷ []) 1) r → Narrowed to to' (Renames rs i j) r
+    narrowed_unary {s} {t} {a} {d} is js same h =
+        narrowed_as to to' (RenamesEach rs (a ∷ []) (d ∷ []) 1) (Renames rs i j) r h
+        (λ f w. (let w0 = w 0 (lit< tt) in there is js f (cc)))
+        (λ f w. (let z = back is js f w in each_one (term_at rs) f a d (cc)))
 
-  pub narrowed_binary : (s t a b d e : ℕ) → node_at rs i ≡ Binary s a b → node_at rs j ≡ Binary t d e → s ≡ t → Narrowed to to' (RenamesEach rs (a ∷ (b ∷ [])) (d ∷ (e ∷ [])) 2) r → Narrowed to to' (Renames rs i j) r
-  narrowed_binary s t a b d e is js same h =
-      narrowed_as to to' (RenamesEach rs (a ∷ (b ∷ [])) (d ∷ (e ∷ [])) 2) (Renames rs i j) r h
-      (λ f w. (let w0 = w 0 (lit< tt) in let w1 = w 1 (lit< tt) in there (Binary s a b) (Binary t d e) is js f (cc)))
-      (λ f w. (let z = back (Binary s a b) (Binary t d e) is js f w in each_two (term_at rs) f a b d e (cc) (cc)))
+    pub narrowed_binary : {s t a b d e : ℕ} → node_at rs i ≡ Binary s a b → node_at rs j ≡ Binary t d e → s ≡ t → Narrowed to to' (RenamesEach rs (a ∷ (b ∷ [])) (d ∷ (e ∷ [])) 2) r → Narrowed to to' (Renames rs i j) r
+    narrowed_binary {s} {t} {a} {b} {d} {e} is js same h =
+        narrowed_as to to' (RenamesEach rs (a ∷ (b ∷ [])) (d ∷ (e ∷ [])) 2) (Renames rs i j) r h
+        (λ f w. (let w0 = w 0 (lit< tt) in let w1 = w 1 (lit< tt) in there is js f (cc)))
+        (λ f w. (let z = back is js f w in each_two (term_at rs) f a b d e (cc) (cc)))
 
-  pub narrowed_ternary : (s t a b c d e g : ℕ) → node_at rs i ≡ Ternary s a b c → node_at rs j ≡ Ternary t d e g → s ≡ t → Narrowed to to' (RenamesEach rs (a ∷ (b ∷ (c ∷ []))) (d ∷ (e ∷ (g ∷ []))) 3) r → Narrowed to to' (Renames rs i j) r
-  narrowed_ternary s t a b c d e g is js same h =
-      narrowed_as to to' (RenamesEach rs (a ∷ (b ∷ (c ∷ []))) (d ∷ (e ∷ (g ∷ []))) 3) (Renames rs i j) r h
-      (λ f w. (let w0 = w 0 (lit< tt) in let w1 = w 1 (lit< tt) in let w2 = w 2 (lit< tt) in there (Ternary s a b c) (Ternary t d e g) is js f (cc)))
-      (λ f w. (let z = back (Ternary s a b c) (Ternary t d e g) is js f w in each_three (term_at rs) f a b c d e g (cc) (cc) (cc)))
+    pub narrowed_ternary : {s t a b c d e g : ℕ} → node_at rs i ≡ Ternary s a b c → node_at rs j ≡ Ternary t d e g → s ≡ t → Narrowed to to' (RenamesEach rs (a ∷ (b ∷ (c ∷ []))) (d ∷ (e ∷ (g ∷ []))) 3) r → Narrowed to to' (Renames rs i j) r
+    narrowed_ternary {s} {t} {a} {b} {c} {d} {e} {g} is js same h =
+        narrowed_as to to' (RenamesEach rs (a ∷ (b ∷ (c ∷ []))) (d ∷ (e ∷ (g ∷ []))) 3) (Renames rs i j) r h
+        (λ f w. (let w0 = w 0 (lit< tt) in let w1 = w 1 (lit< tt) in let w2 = w 2 (lit< tt) in there is js f (cc)))
+        (λ f w. (let z = back is js f w in each_three (term_at rs) f a b c d e g (cc) (cc) (cc)))
