@@ -115,8 +115,8 @@ before_all d values n count e = by_order (leb_tells (suc n) count)
     by_order (inl t) = before_here d values n count t.1
     by_order (inr t) = before_none d values n count (omega (arith, t.1)) ∙ sym (get_or_past values n d (omega (arith, t.1)))
 
--- nothing is remembered at first
-nones : {V : Type 0} (n k : ℕ) → ◌≡◌ {A = Option V} (get_or (replicate n None) k None) None
+-- of nothing known None is read
+pub nones : {V : Type 0} (n k : ℕ) → ◌≡◌ {A = Option V} (get_or (replicate n None) k None) None
 nones zero k = refl
 nones (suc n) zero = refl
 nones (suc n) (suc k) = nones n k
