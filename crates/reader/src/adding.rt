@@ -9,6 +9,7 @@ use sheet::{Bit, Formula, FormulaEntry, Reading, Record, Term, TermEntry};
 use std::alloc::AllocError;
 
 impl Draft {
+    // Beside `add_formula`: each adds to another list, whose entries are of another type.
     fn add_term(&mut self, term: Term) -> Result<(), AllocError>
         requires { keeps (draft_of self.old) (Record.Term term) ≡ true }
         ensures { OnOk result (Added self.old (Record.Term term) self.new) }
