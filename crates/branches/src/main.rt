@@ -175,6 +175,7 @@ fn run(rt: &HostRuntime) -> anyhow::Result<()> {
     rt.stdin().read_to_end(&mut bytes)?;
     let mut sheet = smallest(heap)?;
     let mut text = String::new(heap);
+    // A refusal is printed, so nothing is passed on.
     match read(bytes.as_slice(), heap, &mut sheet) {
         Ok(()) => write_step(&mut text, &sheet)?,
         Err(Failure::Fault(fault)) => writeln!(text, "{fault}")?,
