@@ -1,16 +1,7 @@
 -- Tests of each element with its number.
-use Rattle.std.proofs.Common.{◌≡◌, ℕ, zero, suc, ◌+◌, ◌<◌, Bool, true, ◌&&◌, List, [], ◌∷◌, ◌++◌, length, get_or, set, sym, refl, ap, ◌∙◌, add-zero, arith}
+use Rattle.std.proofs.Common.{◌≡◌, ℕ, zero, suc, ◌+◌, ◌<◌, Bool, true, List, [], ◌∷◌, ◌++◌, length, get_or, set, sym, refl, ap, ◌∙◌, add-zero, arith}
 use Rattle.std.proofs.lemmas.Bool.{and_from, and_parts}
 use Rattle.sheet.specs.Lawful.{each_at}
-
-pub both_true : (x y : Bool) → x ≡ true → y ≡ true → x && y ≡ true
-both_true = and_from
-
-pub left_true : (x y : Bool) → x && y ≡ true → x ≡ true
-left_true x y e = (and_parts x y e).0
-
-pub right_true : (x y : Bool) → x && y ≡ true → y ≡ true
-right_true x y e = (and_parts x y e).1
 
 pub each_push : {A : Type 0} (p : ℕ → A → Bool) (n : ℕ) (xs : List A) (x : A) → each_at p n xs ≡ true → p (n + length xs) x ≡ true → each_at p n (xs ++ x ∷ []) ≡ true
 each_push p n [] x e h = and_from (p n x) true (ap (λ m. p m x) (sym (add-zero n)) ∙ h) refl
