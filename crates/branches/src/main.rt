@@ -104,6 +104,7 @@ impl<'a> Step<'a> {
     }
 }
 
+// Text, step and row are lent side by side: the row is what the step's first call answers.
 fn write_form(
     text: &mut String,
     step: &mut Step,
