@@ -1,6 +1,7 @@
 -- What is worked out from lists by number is the same for lists that are the same by number.
 use Rattle.std.proofs.Common.{◌≡◌, ℕ, zero, suc, ◌<◌, Bool, true, false, eqb, ltb, List, [], ◌∷◌, ◌++◌, map, length, get_or, take, Some, None, Option, sym, refl, ap, ◌∙◌, ap₂, ⊎_elim, arith}
 use Rattle.std.proofs.lemmas.List.{get_or_past}
+use Rattle.std.proofs.lemmas.Bool.{and_parts}
 use Rattle.std.proofs.lemmas.Bool.Decides.{leb_tells}
 use Rattle.sheet.specs.declared.syntax.Equation.{Equation}
 use Rattle.sheet.specs.declared.syntax.Formula.{Formula}
@@ -11,7 +12,6 @@ use Rattle.sheet.specs.Lawful.{each_at}
 use Rattle.sheet.specs.Rules.{no_info, input_at, term_info, term_infos}
 use Rattle.sheet.specs.Runs.{or_kept, numbered}
 use Rattle.sheet.specs.Truth.{Meaning, term_value, term_values, equal, answers, truth_of, truths}
-use Rattle.sheet.proofs.Eaches.{left_true, right_true}
 use Rattle.sheet.proofs.Growing.{grow_at, grow-length}
 use Rattle.bench.specs.Outcome.{Same}
 use Rattle.bench.specs.Values.{Due}
@@ -99,4 +99,4 @@ module _ (m : Meaning) (readings is js : List ℕ) (terms : List Term) where
 
 pub map_each : {A B : Type 0} (p : ℕ → A → Bool) (f g : A → B) → ((n : ℕ) (x : A) → p n x ≡ true → f x ≡ g x) → (n : ℕ) (xs : List A) → each_at p n xs ≡ true → map f xs ≡ map g xs
 map_each p f g h n [] e = refl
-map_each p f g h n (x ∷ xs) e = ap₂ (λ y ys. y ∷ ys) (h n x (left_true (p n x) (each_at p (suc n) xs) e)) (map_each p f g h (suc n) xs (right_true (p n x) (each_at p (suc n) xs) e))
+map_each p f g h n (x ∷ xs) e = let a = and_parts (p n x) (each_at p (suc n) xs) e in ap₂ (λ y ys. y ∷ ys) (h n x a.0) (map_each p f g h (suc n) xs a.1)

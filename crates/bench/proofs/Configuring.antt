@@ -1,5 +1,6 @@
 -- One configuration: its start, its judgement and the step from it.
-use Rattle.std.proofs.Common.{◌≡◌, ℕ, ◌<◌, ◌≤◌, Bool, true, false, not, ◌&&◌, eqb, ltb, leb, List, [], length, get_or, sym, refl, ap, ◌∙◌, ap₂, arith, ltb-true, leb-true}
+use Rattle.std.proofs.Common.{◌≡◌, ℕ, ◌<◌, Bool, true, false, not, ◌&&◌, eqb, ltb, List, [], length, get_or, sym, refl, ap, ◌∙◌, ap₂, arith, ltb-true, leb-true}
+use Rattle.std.proofs.lemmas.Bool.{and_parts, not-true}
 use Rattle.sheet.specs.declared.syntax.Bit.{Bit}
 use Rattle.sheet.specs.declared.syntax.Equation.{Equation}
 use Rattle.sheet.specs.declared.syntax.Reading.{Reading}
@@ -10,7 +11,6 @@ use Rattle.sheet.specs.Runs.{Configuration, or_kept, numbered, step, step_values
 use Rattle.sheet.specs.System.{System}
 use Rattle.sheet.specs.Truth.{Meaning, term_value, term_values, equal, answers, truths, chosen}
 use Rattle.sheet.proofs.Arrays.{filled_all}
-use Rattle.sheet.proofs.Eaches.{left_true, right_true}
 use Rattle.sheet.proofs.Growing.{grow-length}
 use Rattle.bench.specs.declared.configuration.Configuration.{Configuration as Place}
 use Rattle.bench.specs.Outcome.{Same, Holds}
@@ -18,18 +18,11 @@ use Rattle.bench.specs.Values.{Known}
 use Rattle.bench.proofs.Evaluating.{unlike}
 use Rattle.bench.proofs.Agreeing.{numbered-same, or_kept_same, values_same, answers-same, truths-same, not_due, plain-same, map_each}
 
-within : (a b : ℕ) → leb a b ≡ true → a ≤ b
-within a b e = leb-true a b e
-
-not-true : (x : Bool) → not x ≡ true → x ≡ false
-not-true true e = sym e
-not-true false e = refl
-
 -- claims are over terms without inputs
 module _ (s : System) (law : Lawful s) (all values : List ℕ) (lv : length values ≡ 64) (known : Known false s.terms all values) where
   claim_value : (t : ℕ) → t < length s.terms → contains_input s t ≡ false → get_or values t 0 ≡ get_or all t 0
   claim_value t h e =
-      let few = within (length s.terms) 64 law.few.terms in
+      let few = leb-true (length s.terms) 64 law.few.terms in
       known t (omega (arith, few)) (λ q. unlike (sym e ∙ q))
 
   claim_same : (n : ℕ) (e : Equation) → obeys_at s n (Record.Claim e) ≡ true → equal values e ≡ equal all e
@@ -38,9 +31,10 @@ module _ (s : System) (law : Lawful s) (all values : List ℕ) (lv : length valu
       let b = ltb e.right (length s.terms) in
       let x = not (contains_input s e.left) in
       let y = not (contains_input s e.right) in
-      let named : a && b ≡ true = left_true (a && b) (x && y) o in
-      let plain : x && y ≡ true = right_true (a && b) (x && y) o in
-      ap₂ eqb (claim_value e.left (ltb-true e.left (length s.terms) (left_true a b named)) (not-true (contains_input s e.left) (left_true x y plain))) (claim_value e.right (ltb-true e.right (length s.terms) (right_true a b named)) (not-true (contains_input s e.right) (right_true x y plain)))
+      let parts = and_parts (a && b) (x && y) o in
+      let named = and_parts a b parts.0 in
+      let plain = and_parts x y parts.1 in
+      ap₂ eqb (claim_value e.left (ltb-true e.left (length s.terms) named.0) (not-true (contains_input s e.left) plain.0)) (claim_value e.right (ltb-true e.right (length s.terms) named.1) (not-true (contains_input s e.right) plain.1))
 
   claims_same : answers values s.claims ≡ answers all s.claims
   claims_same = map_each (λ n e. obeys_at s n (Record.Claim e)) (equal values) (equal all) claim_same 0 s.claims law.each.claims
@@ -62,7 +56,7 @@ known_with m s readings inputs values known k h due =
 module _ (m : Meaning) (s : System) (place : Place) (c : Configuration) (inputs : List ℕ) (law : Lawful s) (holds : Holds place c) (values : List ℕ) (lv : length values ≡ 64) (known : Known true s.terms (term_values m place.readings inputs s.terms) values) where
   values_are : Same 0 values (step_values m s c inputs)
   values_are k =
-      filled_all 0 values (term_values m place.readings inputs s.terms) (λ j h. known j h (λ _. refl)) (omega (arith, within (length s.terms) 64 law.few.terms, grow-length (term_value m place.readings inputs) [] s.terms)) k ∙ ap (λ l. get_or l k 0) (values_same m place.readings c.readings inputs holds.readings s.terms)
+      filled_all 0 values (term_values m place.readings inputs s.terms) (λ j h. known j h (λ _. refl)) (omega (arith, leb-true (length s.terms) 64 law.few.terms, grow-length (term_value m place.readings inputs) [] s.terms)) k ∙ ap (λ l. get_or l k 0) (values_same m place.readings c.readings inputs holds.readings s.terms)
 
   module _ (questions ts : List Bool) (ks : List ℕ) (fq : Same false questions (answers values s.questions)) (ft : Same false ts (truths place.bits questions [] s.formulas)) (fk : Same 0 ks (chosen (λ f. get_or (truths place.bits questions [] s.formulas) f false) s.choices)) where
     questions_are : Same false questions (answers (step_values m s c inputs) s.questions)

@@ -14,15 +14,9 @@ use Rattle.sheet.specs.declared.syntax.TermInfo.{TermInfo}
 use Rattle.sheet.specs.Stored.{term_in, term_info_in, Informed}
 use Rattle.sheet.specs.Rules.{no_info, input_at, args_info, term_info, term_infos}
 use Rattle.sheet.specs.Truth.{Meaning, arg_values, term_value, term_values}
+use Rattle.sheet.proofs.Arrays.{set_more}
 use Rattle.sheet.proofs.Growing.{grow_at, grow-length}
 use Rattle.bench.specs.Values.{Due, Known}
-
--- what is there, and one more
-pub set_more : {V : Type 0} (P : ℕ → V → Type 0) (xs : List V) (k : ℕ) (v d : V) → k < length xs → P k v → (j : ℕ) → (j < k → P j (get_or xs j d)) → j < k + 1 → P j (get_or (set xs k v) j d)
-set_more P xs k v d inside new j old h = ⊎_elim (λ (t : (eqb j k ≡ true) × (j ≡ k)). at_k t.1) (λ (t : (eqb j k ≡ false) × (j ≡ k → ⊥)). let o : P j (get_or xs j d) = old (omega (arith, t.1)) in rw (get_or-set_other xs k j v d t.1) o) (eqb_tells j k)
-  where
-    at_k : j ≡ k → P j (get_or (set xs k v) j d)
-    at_k e = rw e (rw (get_or-set_same xs k v d inside) new)
 
 abbrev has_input_in : TermInfo → Bool
 has_input_in i = i.has_input
@@ -104,7 +98,7 @@ Past late terms all n values = (j : ℕ) → j < n → Due late (input_at (term_
 module _ (late : Bool) (terms : List Term) (all values now : List ℕ) (k : ℕ) (inside : k < length values) (past : Past late terms all k values) (early : late ≡ true → Known false terms all values) where
   pub pass_new : (v : ℕ) → now ≡ set values k v → v ≡ get_or all k 0 → Past late terms all (k + 1) now × (late ≡ true → Known false terms all now)
   pass_new v e is =
-      rw e ((λ j h due. set_more (λ j x. Due late (input_at (term_infos terms) j) → x ≡ get_or all j 0) values k v 0 inside (λ _. is) j (past j) h due), λ l j h due. let h' : j < length values = omega (arith, length-set values k v) in set_right values all k v is j (early l j h' due) h')
+      rw e ((λ j h due. set_more (λ j x. Due late (input_at (term_infos terms) j) → x ≡ get_or all j 0) values k v 0 inside past (λ _. is) j h due), λ l j h due. let h' : j < length values = omega (arith, length-set values k v) in set_right values all k v is j (early l j h' due) h')
 
   pub pass_over : now ≡ values → (input_at (term_infos terms) k ≡ late → ⊥) → Past late terms all (k + 1) now × (late ≡ true → Known false terms all now)
   pass_over e other = rw e (over, early)

@@ -3,11 +3,11 @@ use Rattle.std.proofs.Common.{◌≡◌, ℕ, ◌+◌, ◌<◌, ◌≤◌, List,
 use Rattle.std.proofs.lemmas.Bool.{cases_lt}
 use Rattle.std.proofs.lemmas.List.{get_or-take, get_or_past}
 use Rattle.bench.specs.Outcome.{Same}
-use Rattle.bench.proofs.Evaluating.{set_more}
+use Rattle.sheet.proofs.Arrays.{set_more}
 
 -- one place more
 pub filled_more : {V : Type 0} (d : V) (out values : List V) (k : ℕ) (v : V) → k < length out → v ≡ get_or values k d → ((j : ℕ) → j < k → get_or out j d ≡ get_or values j d) → (j : ℕ) → j < k + 1 → get_or (set out k v) j d ≡ get_or values j d
-filled_more d out values k v inside is old j h = set_more (λ (j : ℕ) x. x ≡ get_or values j d) out k v d inside is j (old j) h
+filled_more d out values k v inside is old j h = set_more (λ (j : ℕ) x. x ≡ get_or values j d) out k v d inside old is j h
 
 -- values, and then the default
 pub begins_same : {V : Type 0} (d : V) (out values : List V) (m : ℕ) → m ≡ length values → (take m out ≡ values) × ((k : ℕ) → m ≤ k → get_or out k d ≡ d) → Same d out values

@@ -13,7 +13,8 @@ use crate::terms::evaluate;
 use plant::Model;
 use sheet::Sheet;
 
-/// The configuration that a run has reached, and the values of the sheet's terms in it.
+/// The configuration that a run has reached, and the values of the sheet's terms in it, in memory of fixed size, since a
+/// run allocates nothing.
 #[derive(Drop)]
 pub(crate) struct Current {
     pub(crate) place: Configuration,

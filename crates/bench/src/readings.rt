@@ -35,7 +35,7 @@ pub(crate) fn start_readings<M: Model>(sheet: &Sheet, model: &mut M, starts: &[u
     out
 }
 
-// The next value of a reading that was `old`.
+// The next value of a reading that was `old`. The terms that the choices come to and the values are made apart.
 // Bits have a near twin in `sheet`: one function for both would be given the default, the field and the
 // lookup, and be longer.
 fn next_of(reading: Reading, old: u32, chosen: &[u8], values: &[u32]) -> u32

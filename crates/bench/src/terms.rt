@@ -8,6 +8,8 @@ use crate::places::value_at;
 use plant::Model;
 use sheet::{Args, Sheet, Term};
 
+// Each call that may ask the model says that its meaning stays, here and in all of the crate, since the model is the
+// caller's. It comes beside the sheet: a struct of both would have to say in each call that the same model is lent.
 fn value_of_symbol<M: Model>(model: &mut M, symbol: u8, args: Args, earlier: &[u32]) -> u32
     ensures answer { result ≡ M.meaning model.old symbol (arg_values earlier.now args) }
     ensures kept { Kept M.meaning M.lenders model.old model.new }

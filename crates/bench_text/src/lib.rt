@@ -20,7 +20,8 @@ use run_file_error::ReadFailure;
 use sheet::Sheet;
 use std::alloc::{AllocError, Global};
 
-// Each number after a space. As in `sheet_text`, over other numbers: a crate for one loop would be longer.
+// Each number after a space, as in `sheet_text` over bytes. Shared, it would be a public call of `sheet_text`, with a
+// contract and an edit of its own.
 fn push_numbers(text: &mut String, numbers: &[u32]) -> Result<(), AllocError>
     ensures { OnOk result (string_bytes text.new ≡ string_bytes text.old ++ spaced numbers.now) }
 {
@@ -115,6 +116,7 @@ fn run_text<M: Model>(
     let starts = run.starts.as_slice();
     let inputs = run.inputs.as_slice();
     let mut last = Configuration::BLANK;
+    // Here and below, a refusal is printed, so nothing is passed on.
     match run_to(sheet, model, starts, run.steps, inputs, &mut last) {
         Ok(answer) => ending(heap, sheet, run.steps, answer, &last),
         Err(fault) => fault_line(heap, fault),

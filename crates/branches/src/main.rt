@@ -104,6 +104,7 @@ impl<'a> Step<'a> {
     }
 }
 
+// Text, step and row are lent side by side: the row is what the step's first call answers.
 fn write_form(
     text: &mut String,
     step: &mut Step,
@@ -175,6 +176,7 @@ fn run(rt: &HostRuntime) -> anyhow::Result<()> {
     rt.stdin().read_to_end(&mut bytes)?;
     let mut sheet = smallest(heap)?;
     let mut text = String::new(heap);
+    // A refusal is printed, so nothing is passed on.
     match read(bytes.as_slice(), heap, &mut sheet) {
         Ok(()) => write_step(&mut text, &sheet)?,
         Err(Failure::Fault(fault)) => writeln!(text, "{fault}")?,

@@ -25,7 +25,7 @@ impl<T: fmt::Display> fmt::Display for Answer<T> {
     }
 }
 
-// `none`, or the items with the separator between two.
+// `none`, or the items with the separator between two. Not `itertools`' `format`, which holds its items in memory.
 fn write_list<T: fmt::Display + Drop, I: Iterator<Item = T> + Drop, W: fmt::Write>(
     f: &mut fmt::Formatter<W>,
     mut items: I,

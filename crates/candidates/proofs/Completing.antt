@@ -1,5 +1,5 @@
 -- What is built over a sound row is its candidate.
-use Rattle.std.proofs.Common.{◌≡◌, ℕ, ◌<◌, ◌≤◌, Bool, false, List, map, length, get_or, take, replicate, None, Ok, Err, Option, Result, sym, refl, subst, arith, length-take}
+use Rattle.std.proofs.Common.{◌≡◌, ℕ, ◌<◌, ◌≤◌, Bool, false, List, map, length, get_or, take, replicate, None, Ok, Err, Option, Result, sym, refl, ap₂, ◌∙◌, [], subst, arith, length-take}
 use Rattle.std.proofs.Math.Path.{fun_ext}
 use Rattle.std.proofs.lemmas.List.{get_or-take}
 use Rattle.fault.specs.declared.TableFault.{TableFault}
@@ -9,6 +9,7 @@ use Rattle.sheet.specs.Runs.{numbered, or_kept}
 use Rattle.sheet.specs.Stored.{term_in}
 use Rattle.sheet.specs.Lawful.{Lawful}
 use Rattle.sheet.specs.System.{System}
+use Rattle.sheet.specs.Truth.{truths, chosen}
 use Rattle.terms.specs.declared.Condition.{Condition}
 use Rattle.terms.specs.declared.TermRecord.{TermRecord}
 use Rattle.terms.specs.Terms.{Term, Literal}
@@ -18,7 +19,7 @@ use Rattle.closure.specs.Labels.{no_condition}
 use Rattle.banks.specs.Gains.{Gained, Overfull}
 use Rattle.rows.specs.declared.row.RowRecord.{RowRecord}
 use Rattle.forms.specs.Rows.{Row}
-use Rattle.forms.specs.Candidate.{no_term, branch_answers, terms_over, condition_of, next_term_of, row_truths, row_chosen, candidate_with}
+use Rattle.forms.specs.Candidate.{no_term, branch_answers, terms_over, condition_of, next_term_of, candidate_with}
 use Rattle.forms.specs.Counted.{sides_of, terms_in}
 use Rattle.rows.specs.Records.{row_in, Between, Sound}
 use Rattle.candidates.specs.declared.conditions.Conditions.{Conditions}
@@ -59,7 +60,7 @@ module _ {s : System} {rs : List TermRecord} {n : ℕ} {row : RowRecord} {names 
   abbrev own : List Condition
   own = take row.used row.conditions
 
-  abbrev next : Row
+  abbrev pub next : Row
   next = candidate_with s (row_in s rs row) names (branch_answers (length s.questions) b)
 
   own_long : length (take row.used row.conditions) ≡ row.used
@@ -113,14 +114,14 @@ module _ {s : System} {rs : List TermRecord} {n : ℕ} {row : RowRecord} {names 
 
     -- the vector, once the questions' terms are there
     module _ (g : Gained rs n (sides_of asked) rs₁ n₁) (recalled : Recalls over rs₁ n₁ known₁) (long : length rs₁ ≡ length rs) (rs₂ : List TermRecord) (n₂ : ℕ) (known₂ : List (Option ℕ)) where
-      pub vector_placed : (picked : List ℕ) → ((k : ℕ) → get_or picked k 0 ≡ get_or (row_chosen s old names replies) k 0) → (readings : List Reading) → readings ≡ s.readings → (r : Result (List ℕ) TableFault)
+      pub vector_placed : (before : List Bool) → before ≡ (row_in s rs row).bits → (picked : List ℕ) → ((k : ℕ) → get_or picked k 0 ≡ get_or (chosen (λ g. get_or (truths before answers [] s.formulas) g false) s.choices) k 0) → (readings : List Reading) → readings ≡ s.readings → (r : Result (List ℕ) TableFault)
           → WalksOver entries places inputs rs₁ n₁ known₁ (λ v values. numbered (λ m x. next_over picked v values m x.next) 0 readings) rs₂ n₂ known₂ (λ v values. Vectored rs₂ n₂ (numbered (λ m x. next_over picked v values m x.next) 0 readings) (length readings)) r
           → Added rs₁ n₁ next.vector rs₂ n₂ (Made over rs₂ n₂ known₂ (Vectored rs₂ n₂ next.vector (length s.readings))) r
-      vector_placed picked right readings is r walks =
+      vector_placed before was picked right readings is r walks =
           let start : Started (terms_over (row_in s rs row).vector names (map term_in entries)) rs₁ n₁ known₁ = record { bank = g.extends.bank; long = omega (arith, f.sound.long); recalled = subst (λ ts. Recalls (terms_over (row_in s rs row).vector names ts) rs₁ n₁ known₁) (sym f.terms) recalled } in
           let walks' = subst (λ ns. WalksOver entries places ns rs₁ n₁ known₁ (λ v values. numbered (λ m x. next_over picked v values m x.next) 0 readings) rs₂ n₂ known₂ (λ v values. Vectored rs₂ n₂ (numbered (λ m x. next_over picked v values m x.next) 0 readings) (length readings)) r) f.named walks in
           let x = walks' (row_in s rs row).vector (over_later (row_in s rs row).vector rs rs₁ n n₁ places names g.extends given_over) start in
-          subst (λ (pick : ℕ → ℕ). Added rs₁ n₁ (numbered (λ m y. or_kept (λ k. get_or over (pick k) no_term) (get_or (row_in s rs row).vector m no_term) y.next) 0 s.readings) rs₂ n₂ (Made over rs₂ n₂ known₂ (Vectored rs₂ n₂ (numbered (λ m y. or_kept (λ k. get_or over (pick k) no_term) (get_or (row_in s rs row).vector m no_term) y.next) 0 s.readings) (length s.readings))) r) (fun_ext right)
+          subst (λ (pick : ℕ → ℕ). Added rs₁ n₁ (numbered (λ m y. or_kept (λ k. get_or over (pick k) no_term) (get_or (row_in s rs row).vector m no_term) y.next) 0 s.readings) rs₂ n₂ (Made over rs₂ n₂ known₂ (Vectored rs₂ n₂ (numbered (λ m y. or_kept (λ k. get_or over (pick k) no_term) (get_or (row_in s rs row).vector m no_term) y.next) 0 s.readings) (length s.readings))) r) (fun_ext (λ k. right k ∙ ap₂ (λ (bs rs' : List Bool). get_or (chosen (λ g. get_or (truths bs rs' [] s.formulas) g false) s.choices) k 0) was f.replies))
           (subst (λ (ys : List Reading). Added rs₁ n₁ (numbered (λ m y. next_over picked (row_in s rs row).vector over m y.next) 0 ys) rs₂ n₂ (Made over rs₂ n₂ known₂ (Vectored rs₂ n₂ (numbered (λ m y. next_over picked (row_in s rs row).vector over m y.next) 0 ys) (length ys))) r) is
           (subst (λ ts. Added rs₁ n₁ (numbered (λ m y. next_over picked (row_in s rs row).vector (terms_over (row_in s rs row).vector names ts) m y.next) 0 readings) rs₂ n₂ (Made (terms_over (row_in s rs row).vector names ts) rs₂ n₂ known₂ (Vectored rs₂ n₂ (numbered (λ m y. next_over picked (row_in s rs row).vector (terms_over (row_in s rs row).vector names ts) m y.next) 0 readings) (length readings))) r) f.terms x))
 
@@ -143,8 +144,8 @@ module _ {s : System} {rs : List TermRecord} {n : ℕ} {row : RowRecord} {names 
           (overfull_second rs n asked own own_between next.vector rs₁ n₁ g rs₂ n₂ over', extends_more rs rs₁ rs₂ n n₁ n₂ g.extends x)
 
   -- the bits
-  pub bits_built : (before : List Bool) → before ≡ (row_in s rs row).bits → (truth : List Bool) → ((f : ℕ) → get_or truth f false ≡ get_or (row_truths s old names replies) f false) → (out : List Bool)
+  pub bits_built : (before : List Bool) → before ≡ (row_in s rs row).bits → (truth : List Bool) → ((g : ℕ) → get_or truth g false ≡ get_or (truths before answers [] s.formulas) g false) → (out : List Bool)
       → take (length s.bits) out ≡ numbered (λ m x. or_kept (λ f. get_or truth f false) (get_or before m false) x.next) 0 s.bits → take (length s.bits) out ≡ next.bits
   bits_built before was truth right out e =
-      subst (λ (t : ℕ → Bool). take (length s.bits) out ≡ numbered (λ m x. or_kept t (get_or (row_in s rs row).bits m false) x.next) 0 s.bits) (fun_ext right)
+      subst (λ (t : ℕ → Bool). take (length s.bits) out ≡ numbered (λ m x. or_kept t (get_or (row_in s rs row).bits m false) x.next) 0 s.bits) (fun_ext (λ g. right g ∙ ap₂ (λ (bs rs' : List Bool). get_or (truths bs rs' [] s.formulas) g false) was f.replies))
       (subst (λ (l : List Bool). take (length s.bits) out ≡ numbered (λ m x. or_kept (λ f. get_or truth f false) (get_or l m false) x.next) 0 s.bits) was e)

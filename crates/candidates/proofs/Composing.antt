@@ -1,9 +1,11 @@
 -- A candidate and its conditions, composed of what is listed and interned.
-use Rattle.std.proofs.Common.{◌≡◌, ℕ, zero, suc, ◌+◌, ◌-◌, ◌<◌, ◌≤◌, List, [], ◌∷◌, ◌++◌, map, length, get_or, take, replicate, None, Option, sym, refl, ap, ◌∙◌, subst, ⊎_elim, arith, length-append, length-take}
+use Rattle.std.proofs.Common.{◌≡◌, ℕ, suc, ◌+◌, ◌-◌, ◌<◌, ◌≤◌, List, [], ◌∷◌, ◌++◌, map, length, get_or, take, replicate, None, sym, ap, ◌∙◌, subst, ⊎_elim, arith, length-append, length-take}
 use Rattle.std.specs.List.{ContainsAt as Has, AllByRecursion as All}
 use Rattle.std.proofs.ByRecursion.{All-append, All-weaker}
 use Rattle.std.proofs.lemmas.List.{length-map, same_lists, get_or-map, get_or-take, get_or_append_left, get_or-append-add, get_or_default}
 use Rattle.std.proofs.lemmas.Bool.{cases_lt}
+use Rattle.std.proofs.lemmas.Option.{none-some}
+use Rattle.sheet.proofs.Memos.{nones}
 use Rattle.terms.specs.declared.Condition.{Condition}
 use Rattle.terms.specs.declared.TermRecord.{TermRecord}
 use Rattle.terms.specs.Terms.{Term, Literal}
@@ -21,13 +23,8 @@ use Rattle.candidates.specs.Working.{Recalls, Stands, Listed, Vectored, Joined, 
 use Rattle.candidates.proofs.Listing.{sides_append, stands_later, listed_later}
 
 -- nothing is known at first
-nones : (n k : ℕ) → ◌≡◌ {A = Option ℕ} (get_or (replicate n None) k None) None
-nones zero k = refl
-nones (suc n) zero = refl
-nones (suc n) (suc k) = nones n k
-
 pub recalls_none : (values : List Term) (rs : List TermRecord) (n m : ℕ) → Recalls values rs n (replicate m None)
-recalls_none values rs n m k p e = let q = nones m k in let z : ◌≡◌ {A = ℕ} 0 1 = cc in absurd (omega arith)
+recalls_none values rs n m k p e = absurd (none-some p (sym (nones m k) ∙ e))
 
 -- places that stand for terms, as a list
 pub vectored_map : (rs : List TermRecord) (n : ℕ) (ts : List Term) (ps : List ℕ) (m : ℕ) → length ts ≡ m → m ≤ length ps → Vectored rs n ts m ps → map (term_at rs) (take m ps) ≡ ts

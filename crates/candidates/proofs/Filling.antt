@@ -1,5 +1,6 @@
 -- Lists that are filled from the front: values, a branch's answers and the inputs' names.
 use Rattle.std.proofs.Common.{◌≡◌, ℕ, zero, suc, ◌+◌, ◌-◌, ◌/◌, ◌%◌, ◌^◌, ◌<◌, ◌≤◌, Bool, true, false, cond, ◌||◌, eqb, List, [], ◌∷◌, ◌++◌, length, get_or, take, drop, set, replicate, Some, None, Option, sym, refl, ap, ◌∙◌, append_assoc, append-nil, arith, length-take}
+use Rattle.std.proofs.Math.Bool.{or_comm}
 use Rattle.std.proofs.Math.Path.{fun_ext}
 use Rattle.std.specs.Prelude.{bit_or}
 use Rattle.std.proofs.lemmas.List.{take_more, take_more_set, get_or-take, ext_get_or}
@@ -35,14 +36,8 @@ answers_from_bits out count branch room bits =
     (λ k lt. let lt' : k < count = omega (arith, length-take count out) in get_or-take count out k false lt' ∙ (bits k lt' ∙ sym (answers_at count branch k lt')))
 
 -- one name more
-or_swap : (a b : Bool) → a || b ≡ b || a
-or_swap true true = refl
-or_swap true false = refl
-or_swap false true = refl
-or_swap false false = refl
-
 with_name : (set x : ℕ) → ◌≡◌ {A = ℕ → Bool} (λ y. eqb y x || is_in set y) (is_in (bit_or set (2 ^ x)))
-with_name set x = fun_ext (λ y. sym (in-union set (2 ^ x) y ∙ (ap (λ b. is_in set y || b) (mentions_occurs y (name x)) ∙ or_swap (is_in set y) (eqb y x))))
+with_name set x = fun_ext (λ y. sym (in-union set (2 ^ x) y ∙ (ap (λ b. is_in set y || b) (mentions_occurs y (name x)) ∙ or_comm (is_in set y) (eqb y x))))
 
 pub named_more : (m set x : ℕ) (front : List ℕ) → lowest_free (is_in set) ≡ Some x → or_none (names_for (suc m) (is_in set)) (λ ys. Some (front ++ ys)) ≡ or_none (names_for m (is_in (bit_or set (2 ^ x)))) (λ ys. Some ((front ++ x ∷ []) ++ ys))
 named_more m set x front is =

@@ -6,7 +6,6 @@ use Rattle.sheet.specs.Runs.{or_kept}
 use Rattle.sheet.specs.System.{System}
 use Rattle.sheet.specs.Truth.{truths}
 use Rattle.terms.specs.declared.Condition.{Condition}
-use Rattle.terms.specs.declared.Sign.{Sign}
 use Rattle.terms.specs.declared.TermRecord.{TermRecord}
 use Rattle.terms.specs.Terms.{Term, Literal, Sat}
 use Rattle.closure.specs.Labels.{no_condition, literals, Ready}
@@ -19,9 +18,6 @@ use Rattle.candidates.specs.Cases.{with_answer, Laid, Breaks}
 use Rattle.candidates.proofs.Composing.{listed-map}
 use Rattle.sheet.proofs.Numbering.{numbered_at, numbered-length}
 use Rattle.candidates.proofs.Listing.{literal_same, no_equation}
-
-pub answered : (c d : Condition) (s : Sign) (a : Bool) → c ≡ d → s ≡ sign_of a → ◌≡◌ {A = Condition} (record { left = c.left; right = c.right; sign = s }) (with_answer d a)
-answered c d s a p q = λ i. record { left = (p i).left; right = (p i).right; sign = q i }
 
 -- the conditions of case b stand where those of the first case did, with other signs
 module _ (s : System) (form : Row) (rs : List TermRecord) (n : ℕ) (cs : List Condition) (used : ℕ) (laid : Laid s form rs n cs used) (b : ℕ) (answers : List Bool) (is : answers ≡ branch_answers (length s.claims) b) (cs' : List Condition) (room : used ≤ length cs') (front : (k : ℕ) → k < length answers → get_or cs' k no_condition ≡ with_answer (get_or cs k no_condition) (get_or answers k false)) (back : (k : ℕ) → length answers ≤ k → get_or cs' k no_condition ≡ get_or cs k no_condition) where

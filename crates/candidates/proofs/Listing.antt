@@ -1,10 +1,11 @@
 -- Conditions and places that are listed one after another.
-use Rattle.std.proofs.Common.{◌≡◌, ℕ, ◌+◌, ◌<◌, List, [], ◌∷◌, ◌++◌, length, get_or, take, drop, set, IsErrAnd, Ok, Err, Option, Result, sym, refl, ap, ◌∙◌, subst, arith, take-append-drop, below_more}
+use Rattle.std.proofs.Common.{◌≡◌, ℕ, ◌+◌, ◌<◌, List, [], ◌∷◌, ◌++◌, length, get_or, take, drop, set, IsErrAnd, Ok, Err, Option, Result, sym, refl, ap, ◌∙◌, subst, arith, take-append-drop}
 use Rattle.std.specs.List.{ContainsAt as Has}
-use Rattle.std.proofs.lemmas.List.{get_or-set_same, get_or-set_other, take_more}
+use Rattle.std.proofs.lemmas.List.{take_more}
 use Rattle.fault.specs.declared.TableFault.{TableFault}
 use Rattle.fault.specs.declared.TableFault.TheVariants.{TermsExhausted}
 use Rattle.sheet.specs.declared.syntax.Equation.{Equation}
+use Rattle.sheet.proofs.Arrays.{set_more}
 use Rattle.terms.specs.declared.Condition.{Condition}
 use Rattle.terms.specs.declared.Sign.{Sign}
 use Rattle.terms.specs.declared.TermRecord.{TermRecord}
@@ -32,11 +33,6 @@ added_break rs n ts rs' n' P e (Err y) is h by = (by ∙ is, h.0, h.1)
 -- what is true of the bank of a memory is true of the bank that was lent to it
 pub left : (Q : List TermRecord → ℕ → Type 0) (rs rs' : List TermRecord) (n n' : ℕ) → rs' ≡ rs → n' ≡ n → Q rs n → Q rs' n'
 left Q rs rs' n n' p q h = subst (λ m. Q rs' m) (sym q) (subst (λ xs. Q xs n) (sym p) h)
-
--- what is true of each place stays true when one more is written
-pub set_more : {V : Type 0} (P : ℕ → V → Type 0) (xs : List V) (i : ℕ) (x d : V) → i < length xs → ((k : ℕ) → k < i → P k (get_or xs k d)) → P i x → (k : ℕ) → k < i + 1 → P k (get_or (set xs i x) k d)
-set_more P xs i x d inside old new =
-    below_more (λ k. P k (get_or (set xs i x) k d)) i (λ k lt. subst (P k) (sym (get_or-set_other xs i k x d (λ e. omega arith))) (old k lt)) (subst (P i) (sym (get_or-set_same xs i x d inside)) new)
 
 -- the terms of conditions
 pub sides_append : (xs ys : List Literal) → sides_of (xs ++ ys) ≡ sides_of xs ++ sides_of ys

@@ -168,6 +168,3 @@ module _ (all : List Term) {t : Term} {f : ℕ} where
 
   pub has_ternary : {a b c : Term} → t ≡ ternary f a b c → Throughout (Has all) t → HasAll all (a ∷ b ∷ c ∷ t ∷ [])
   has_ternary e h = let h' = subst (Throughout (Has all)) e h in (h'.1, (h'.2, (h'.3, (h, tt))))
-
-pub ternary_same : (f : ℕ) {a b c x y z : Term} → a ≡ x → b ≡ y → c ≡ z → ternary f a b c ≡ ternary f x y z
-ternary_same f p q r = cc

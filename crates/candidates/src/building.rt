@@ -17,6 +17,7 @@ use rows::{RowRecord, bits_of};
 use sheet::{Equation, Reading, Sheet};
 use terms::{Condition, Count, TermRecord};
 
+// One field's length, named for what its contract says.
 pub(crate) fn questions_of(sheet: &Sheet) -> usize
     ensures number { result ≡ length (sheet_of sheet.now).questions }
     ensures few { result ≤ 6 }
@@ -40,6 +41,7 @@ fn conditions_of(
     Ok(append(list, questions.len(), own))
 }
 
+// The lent memory comes in parts, as in the calls that lend it: each says of its own part what becomes of it.
 /// The conditions of the row's candidate on the branch.
 pub(crate) fn build_conditions<'a>(
     sheet: &'a Sheet,

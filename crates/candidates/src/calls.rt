@@ -46,7 +46,7 @@ pub fn branch_conditions(
     ensures counted { (seen : List Term) → Holding bank.old count.old.terms seen → ConditionsCounted (sheet_of sheet.now) (row_in (sheet_of sheet.now) bank.old row.now) branch seen bank.new count.new.terms result }
 {
     let before = count.terms;
-    let names = prepare(sheet, bank, before, row, branch)?;
+    let names = prepare(sheet, bank, *count, row, branch)?;
     let names = &names[..sheet.parts.inputs as usize];
     let made = build_conditions(sheet, bank, count, row, names, branch);
     count.or_restored(before, made)
@@ -66,7 +66,7 @@ pub fn candidate(
     ensures counted { (seen : List Term) → Holding bank.old count.old.terms seen → CandidateCounted (sheet_of sheet.now) (row_in (sheet_of sheet.now) bank.old row.now) branch seen bank.new count.new.terms result }
 {
     let before = count.terms;
-    let names = prepare(sheet, bank, before, row, branch)?;
+    let names = prepare(sheet, bank, *count, row, branch)?;
     let names = &names[..sheet.parts.inputs as usize];
     let made = build(sheet, bank, count, row, names, branch);
     count.or_restored(before, made)

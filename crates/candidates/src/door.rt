@@ -8,7 +8,7 @@ use crate::naming::input_names;
 use fault::TableFault;
 use rows::{MOST_CONDITIONS, RowRecord, is_sound, names_of_row};
 use sheet::Sheet;
-use terms::TermRecord;
+use terms::{Count, TermRecord};
 
 fn is_branch(sheet: &Sheet, branch: u8) -> bool
     ensures { Decides result (branch < 2 ^ length (sheet_of sheet.now).questions) }
@@ -21,13 +21,19 @@ fn is_branch(sheet: &Sheet, branch: u8) -> bool
 pub(crate) fn prepare(
     sheet: &Sheet,
     bank: &[TermRecord],
-    terms: u16,
+    count: Count,
     row: &RowRecord,
     branch: u8,
 ) -> Result<[u8; 4], TableFault>
-    ensures { Prepared (sheet_of sheet.now) bank.now terms row.now branch result }
+    ensures { Prepared (sheet_of sheet.now) bank.now count.terms row.now branch result }
 {
-    if !is_sound(sheet, bank, terms as usize, MOST_CONDITIONS as u8, row) {
+    if !is_sound(
+        sheet,
+        bank,
+        count.terms as usize,
+        MOST_CONDITIONS as u8,
+        row,
+    ) {
         return Err(TableFault::BadMemory);
     }
     if !is_branch(sheet, branch) {

@@ -14,7 +14,7 @@ use rows::{at_or, readings_of};
 use sheet::{Args, Sheet, Term, TermEntry, recall, remember};
 use terms::{Count, Node, TermRecord, intern};
 
-/// How many terms are remembered: as many as a sheet can have.
+/// How many terms are remembered: as many as a sheet can have, in memory of fixed size, since nothing is allocated.
 pub(crate) const MOST_SHEET_TERMS: usize = 64;
 
 /// The sheet's terms, the places of a row's vector and the names of the inputs.
@@ -26,7 +26,8 @@ pub(crate) struct Given<'a> {
 }
 
 /// A lent bank, and the places in it of the terms that are interned.
-// Apart from what is given, which stays as it is while terms are interned.
+// Apart from what is given, which stays as it is while terms are interned. The loans are the caller's, so each call says
+// by `Lent` that it gives them back, and each caller makes this itself: a call would have to say that it holds the loans.
 #[derive(Drop)]
 pub(crate) struct Memory<'a> {
     pub(crate) bank: &'a mut [TermRecord],

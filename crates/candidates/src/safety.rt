@@ -1,6 +1,6 @@
 //! Safety of a form, by the cases of the claims: the claims' terms are interned once, and each case with a false
 //! invariant is tried with its signs.
-ghost use Rattle.std.specs.Prelude.{◌≡◌, ℕ, ◌<◌, ◌≤◌, false, length, slice_index_or};
+ghost use Rattle.std.specs.Prelude.{◌≡◌, ℕ, ◌<◌, ◌≤◌, false, cond, nat_lt, length, slice_index_or};
 ghost use Rattle.sheet.specs.View.{sheet_of};
 ghost use Rattle.closure.specs.Labels.{no_condition};
 ghost use Rattle.forms.specs.Rows.{Row};
@@ -19,21 +19,29 @@ use closure::decide;
 use fault::TableFault;
 use rows::{MOST_CONDITIONS, RowRecord, bits_of, is_sound};
 use sheet::{Equation, Sheet};
+use std::array;
 use terms::{Condition, Count, CountGuard, MOST_TERMS, TermRecord};
 
+// Condition k of the cases, with the sign of answer k where there is one.
+fn signed_at(condition: Condition, answers: &[bool], k: usize) -> Condition
+    ensures { result ≡ cond (nat_lt k (length answers.now)) (with_answer condition (slice_index_or answers.now k false)) condition }
+{
+    let sign = answers
+        .get(k)
+        .map_or(condition.sign, |answer| sign_of(*answer));
+    Condition { sign, ..condition }
+}
+
 // The conditions, the first of them with the signs of the answers.
-fn signed(mut list: [Condition; 22], answers: &[bool]) -> [Condition; 22]
+fn signed(list: [Condition; 22], answers: &[bool]) -> [Condition; 22]
     requires { length answers.now ≤ 22 }
     ensures front { (k : ℕ) → k < length answers.now → slice_index_or result k no_condition ≡ with_answer (slice_index_or list k no_condition) (slice_index_or answers.now k false) }
     ensures back { (k : ℕ) → length answers.now ≤ k → slice_index_or result k no_condition ≡ slice_index_or list k no_condition }
 {
-    // By number: of what a loop over `iter_mut().zip(..)` has written nothing can be proved.
-    for (k, answer) in answers.iter().enumerate() {
-        list[k].sign = sign_of(*answer);
-    }
-    list
+    array::from_fn(|k| signed_at(list[k], answers, k))
 }
 
+// One field's length, named for what its contract says.
 fn claims_of(sheet: &Sheet) -> usize
     ensures number { result ≡ length (sheet_of sheet.now).claims }
     ensures few { result ≤ 4 }

@@ -70,6 +70,7 @@ impl<'a> Question<'a> {
         let places = &self.places;
         start(labels, places.terms);
         let mut joins = 0;
+        // Counted in the loop: `filter` would take a closure that writes the labels.
         for condition in self.conditions {
             if assume(labels, places.terms, *condition) {
                 joins += 1;

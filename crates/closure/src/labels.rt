@@ -1,5 +1,5 @@
 //! Labels: places of one class have one label, the lowest place of the class.
-// No struct holds the labels: what the clauses say of them (their length, `Rooted`) is said of the count of the places,
+// No struct holds the labels: what the clauses say of them (their length, `Rooted`, `Grown`) is said of the count of the places,
 // and a struct of both would have to promise in each join that the places stay.
 ghost use Rattle.std.specs.Prelude.{◌≡◌, ℕ, ◌<◌, ◌≤◌, length};
 ghost use Rattle.closure.specs.Labels.{label};
@@ -27,7 +27,7 @@ fn relabel(labels: &mut [u16], high: u16, low: u16)
 }
 
 /// Joins the classes of two places; false where they are one already. The count of terms stands beside the labels, since
-/// a caller may lend more labels.
+/// a caller may lend more labels; cut at the door, each clause would still say that they are as many as the places.
 pub(crate) fn join(labels: &mut [u16], terms: usize, a: usize, b: usize) -> bool
     requires inside { terms ≤ length labels.old }
     requires left { a < terms }

@@ -14,6 +14,7 @@ use queue::Queue;
 use terms::{MOST_TERMS, Node};
 
 /// Two places that are to be joined.
+// Not a sheet's equation, which is between numbers of its terms: closure stands on no sheet.
 #[derive(Clone, Copy)]
 pub(crate) struct Equation {
     left: u16,
@@ -67,6 +68,7 @@ impl Uses {
     }
 
     /// Notes the uses of the places that a node names, from the use `from` on.
+    // By arity: with arguments listed through an array closure was a quarter slower.
     fn note(&mut self, labels: &[u16], node: Node, from: usize)
         requires { from < 1536 }
     {
@@ -98,6 +100,7 @@ impl Uses {
 
     /// Moves the first use of a label over to another label; answers the place that uses it.
     fn hand_over(&mut self, gone: usize, heir: usize) -> Option<usize> {
+        // Tested and not read by `get`, since each is written too.
         if gone >= MOST_TERMS || heir >= MOST_TERMS {
             return None;
         }
@@ -113,6 +116,7 @@ impl Uses {
     }
 }
 
+// The queue is lent without what `Pending` knows of it, so each call says that its room stays.
 /// Looks a place on the table up anew: a place of the same signature and another label makes an equation.
 fn revisit(
     places: &Places,
@@ -215,6 +219,7 @@ pub(crate) fn propagate(
     let queue = &mut pending.queue;
     revisit_users(places, table, labels, uses, gone, queue);
     let mut joins = 0;
+    // The queue grows while it is emptied.
     while let Some(equation) = queue.pop() {
         if settle(places, table, labels, uses, equation, queue) {
             joins += 1;

@@ -7,6 +7,7 @@ ghost use Rattle.closure.specs.Props.{Ordered-prop};
 use terms::{MOST_TERMS, Node, TermRecord, is_ordered};
 
 /// The first `terms` places of a bank, which is lent with its count beside.
+// Not the slice of the first terms: what the calls promise is said of the bank that was lent.
 #[derive(Drop)]
 pub(crate) struct Places<'a> {
     pub(crate) bank: &'a [TermRecord],

@@ -174,6 +174,7 @@ impl fmt::Display for Fault {
 }
 
 /// Why a call that also allocates did not succeed: a fault by the rules, or want of memory.
+// Not one generic enum with others of its shape: `From<E>` would overlap with `From<AllocError>`.
 #[derive(Clone, Copy, Debug, PartialEq, Eq)]
 pub enum Failure {
     Fault(Fault),

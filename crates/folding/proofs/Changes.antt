@@ -4,6 +4,7 @@ use Rattle.std.specs.List.{ContainsAt as Has}
 use Rattle.std.proofs.ByRecursion.{All-append}
 use Rattle.std.proofs.lemmas.List.{get_or-set_same, get_or-set_other, set_past}
 use Rattle.std.proofs.lemmas.Bool.{cond-true, cond-false, cases_Bool, cases_lt, ltb-true, eqb-true, eqb-false, eq-eqb}
+use Rattle.std.proofs.lemmas.Option.{none-some}
 use Rattle.fault.specs.declared.TableFault.{TableFault}
 use Rattle.terms.specs.declared.Node.{Node}
 use Rattle.terms.specs.declared.Node.TheVariants.{Name, Constant, Unary, Binary, Ternary}
@@ -34,9 +35,6 @@ added_interned rs rs' n n' t node (Err e) b long h f =
 pub adding_extends : (rs rs' : List TermRecord) (n n' : ℕ) (t : Term) (r : Result ℕ TableFault) → Adding rs n t rs' n' r → Extends rs n rs' n'
 adding_extends rs rs' n n' t (Ok p) h = h.gained.extends
 adding_extends rs rs' n n' t (Err e) h = h.extends
-
-none_some : {X : Type 0} (x : X) → ◌≡◌ {A = Option X} None (Some x) → ⊥
-none_some x e = let z : ◌≡◌ {A = ℕ} 0 1 = cc in omega arith
 
 module _ (rs rs' : List TermRecord) (n n' : ℕ) (e : Extends rs n rs' n') where
   pub changed_stays : (change : Change) → Suits n change → (t : Term) → changed rs' change t ≡ changed rs change t
@@ -85,13 +83,13 @@ module _ (rs : List TermRecord) (n : ℕ) (b : Bank rs n) (place : ℕ) (lt : pl
 
   renamed_stop : (to : List ℕ) (node new : Node) → ((y : ℕ) → get_or to y 0 < 32) → renamed_name to node ≡ Some new → (m : ℕ) (at : ℕ → Term) → Fit m new × (term_of at new ≡ renamed (λ y. get_or to y 0) (term_of (term_at rs) node))
   renamed_stop to (Name y) new small is m at = let e : Name (get_or to y 0) ≡ new = cc in (subst (Fit m) e (small y), ap (term_of at) (sym e))
-  renamed_stop to (Constant f) new small is m at = absurd (none_some new is)
-  renamed_stop to (Unary f a) new small is m at = absurd (none_some new is)
-  renamed_stop to (Binary f a c) new small is m at = absurd (none_some new is)
-  renamed_stop to (Ternary f a c d) new small is m at = absurd (none_some new is)
+  renamed_stop to (Constant f) new small is m at = absurd (none-some new is)
+  renamed_stop to (Unary f a) new small is m at = absurd (none-some new is)
+  renamed_stop to (Binary f a c) new small is m at = absurd (none-some new is)
+  renamed_stop to (Ternary f a c d) new small is m at = absurd (none-some new is)
 
   renamed_on : (to : List ℕ) (node : Node) → renamed_name to node ≡ None → renamed (λ y. get_or to y 0) (term_of (term_at rs) node) ≡ term_of (arg rs (Rename to)) node
-  renamed_on to (Name y) is = absurd (none_some (Name (get_or to y 0)) (sym is))
+  renamed_on to (Name y) is = absurd (none-some (Name (get_or to y 0)) (sym is))
   renamed_on to (Constant f) is = refl
   renamed_on to (Unary f a) is = refl
   renamed_on to (Binary f a c) is = refl
@@ -103,14 +101,14 @@ module _ (rs : List TermRecord) (n : ℕ) (b : Bank rs n) (place : ℕ) (lt : pl
       (λ here. (let e : ◌≡◌ {A = Option Node} (Some (Name x)) (Some new) = sym (cond-true (eqb place old) (Some (Name x)) None here) ∙ is in
       let v : Name x ≡ new = cc in
       (subst (Fit m) v suits.1, ap (term_of at) (sym v) ∙ sym (replaced_here old x (eqb-true place old here)))))
-      (λ there. absurd (none_some new (sym (cond-false (eqb place old) (Some (Name x)) None there) ∙ is)))
+      (λ there. absurd (none-some new (sym (cond-false (eqb place old) (Some (Name x)) None there) ∙ is)))
       (cases_Bool (eqb place old))
   stopped_some (Rename to) suits new is m at =
       let r = renamed_stop to (node_at rs place) new suits is m at in (r.0, r.1 ∙ ap (renamed (λ y. get_or to y 0)) (sym (term_at-ordered rs n b.ordered place lt)))
 
   pub stopped_none : (change : Change) → Suits n change → stopped change place (node_at rs place) ≡ None → arg rs change place ≡ term_of (arg rs change) (node_at rs place)
   stopped_none (Replace old x) suits is =
-      replaced-below old x suits.0 (λ e. none_some (Name x) (sym is ∙ cond-true (eqb place old) (Some (Name x)) None (eq-eqb place old e)))
+      replaced-below old x suits.0 (λ e. none-some (Name x) (sym is ∙ cond-true (eqb place old) (Some (Name x)) None (eq-eqb place old e)))
   stopped_none (Rename to) suits is = ap (renamed (λ y. get_or to y 0)) (term_at-ordered rs n b.ordered place lt) ∙ renamed_on to (node_at rs place) is
 
 -- what is replaced stands in no term at a lower place

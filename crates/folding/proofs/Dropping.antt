@@ -1,5 +1,6 @@
 -- What dropping conditions one after the other keeps, and names as bits.
 use Rattle.std.proofs.Common.{◌≡◌, ℕ, zero, suc, ◌+◌, ◌/◌, ◌%◌, ◌^◌, ◌<◌, ◌≤◌, Bool, true, false, cond, not, ◌&&◌, ◌||◌, eqb, ltb, List, [], ◌∷◌, ◌++◌, map, length, get_or, take, set, filter, Decides, sym, refl, ap, ◌∙◌, subst, ⊎_elim, arith, bit_or}
+use Rattle.std.proofs.Math.Bool.{or-false}
 use Rattle.std.specs.List.{list_any}
 use Rattle.std.proofs.lemmas.Nat.{shr-shr}
 use Rattle.std.proofs.lemmas.List.Elements.{filter-append}
@@ -20,10 +21,6 @@ use Rattle.forms.specs.Form.{is_low, names_among, is_named, same_sign, same_lite
 use Rattle.rows.specs.Records.{Between}
 use Rattle.folding.proofs.Entailed.{between_taken}
 use Rattle.folding.specs.Dropping.{kept_conditions, NamesIn}
-
-or_false : (a : Bool) → a ≡ (a || false)
-or_false true = refl
-or_false false = refl
 
 or_rolled : (a b c : Bool) → ((a || b) || c) ≡ (b || (a || c))
 or_rolled true true c = refl
@@ -117,7 +114,7 @@ module _ (rs : List TermRecord) (n : ℕ) (bank : Bank rs n) where
       ) refl
 
 without_push : (seen us : List Literal) (c : Literal) → without_repeats seen (us ++ c ∷ []) ≡ without_repeats seen us ++ cond (is_among seen c || is_among (without_repeats seen us) c) [] (c ∷ [])
-without_push seen [] c = ap (λ b. cond b [] (c ∷ [])) (or_false (is_among seen c))
+without_push seen [] c = ap (λ b. cond b [] (c ∷ [])) (sym (or-false (is_among seen c)))
 without_push seen (u ∷ us) c =
     ⊎_elim
     (λ e. cond-true (is_among seen u) (without_repeats seen (us ++ c ∷ [])) (u ∷ without_repeats (u ∷ seen) (us ++ c ∷ [])) e

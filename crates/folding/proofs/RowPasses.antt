@@ -1,9 +1,12 @@
 -- A row changed throughout, from its vector and its conditions.
-use Rattle.std.proofs.Common.{◌≡◌, ℕ, zero, suc, ◌<◌, List, [], ◌∷◌, ◌++◌, map, length, get_or, take, drop, replicate, length-append, Some, None, sym, refl, ap, ◌∙◌, subst, arith}
+use Rattle.std.proofs.Common.{◌≡◌, ℕ, suc, ◌<◌, List, [], ◌∷◌, ◌++◌, map, length, get_or, take, drop, replicate, length-append, None, sym, refl, ap, ◌∙◌, subst, arith}
 use Rattle.std.specs.List.{ContainsAt as Has}
 use Rattle.std.proofs.lemmas.List.{length-take-le, get_or-take}
+use Rattle.std.proofs.lemmas.Option.{none-some}
+use Rattle.std.proofs.lemmas.Simd.{map-map}
 use Rattle.fault.specs.declared.TableFault.{TableFault}
 use Rattle.sheet.specs.System.{System}
+use Rattle.sheet.proofs.Memos.{nones}
 use Rattle.terms.specs.declared.Condition.{Condition}
 use Rattle.terms.specs.declared.TermRecord.{TermRecord}
 use Rattle.terms.specs.Terms.{Term, Literal}
@@ -25,15 +28,7 @@ use Rattle.folding.proofs.Passes.{became_later}
 use Rattle.folding.proofs.Entailed.{front_taken}
 
 pub known_none : (rs : List TermRecord) (n : ℕ) (change : Change) (k : ℕ) → Known rs n change (replicate k None)
-known_none rs n change zero i p is = let z : ◌≡◌ {A = ℕ} 0 1 = cc in absurd (omega arith)
-known_none rs n change (suc k) zero p is = let z : ◌≡◌ {A = ℕ} 0 1 = cc in absurd (omega arith)
-known_none rs n change (suc k) (suc i) p is =
-    let h = known_none rs n change k i p is in absurd (empty k i p is)
-  where
-    empty : (k i p : ℕ) → get_or (replicate k None) i None ≡ Some p → ⊥
-    empty zero i p is = let z : ◌≡◌ {A = ℕ} 0 1 = cc in omega arith
-    empty (suc k) zero p is = let z : ◌≡◌ {A = ℕ} 0 1 = cc in omega arith
-    empty (suc k) (suc i) p is = empty k i p is
+known_none rs n change k i p is = absurd (none-some p (sym (nones k i) ∙ is))
 
 -- lists of equal length that are alike at each place
 pub alike : {X Y Z : Type 0} (f : X → Z) (g : Y → Z) (d : X) (e : Y) (xs : List X) (ys : List Y) → length xs ≡ length ys → ((j : ℕ) → j < length ys → f (get_or xs j d) ≡ g (get_or ys j e)) → map f xs ≡ map g ys
@@ -42,10 +37,6 @@ alike f g d e [] (y ∷ ys) p h = absurd (omega arith)
 alike f g d e (x ∷ xs) [] p h = absurd (omega arith)
 alike f g d e (x ∷ xs) (y ∷ ys) p h =
     let a = h 0 (omega arith) in let b = alike f g d e xs ys (omega arith) (λ j lt. h (suc j) (omega arith)) in cc
-
-pub map-map : {X Y Z : Type 0} (f : X → Y) (g : Y → Z) (xs : List X) → map g (map f xs) ≡ map (λ x. g (f x)) xs
-map-map f g [] = refl
-map-map f g (x ∷ xs) = ap (λ l. g (f x) ∷ l) (map-map f g xs)
 
 pub literals_equal : (a b : Literal) → a.left ≡ b.left → a.right ≡ b.right → a.sign ≡ b.sign → a ≡ b
 literals_equal a b p q r = λ i. record { left = p i; right = q i; sign = r i }
@@ -80,7 +71,7 @@ module _ (rs : List TermRecord) (n : ℕ) (change : Change) (suits : Suits n cha
 
     terms_are : map (arg rs change) (take (length s.readings) row.vector) ++ map (arg rs₁ change) old_sides ≡ terms_in (changed_row rs change (row_in s rs row))
     terms_are =
-        let a = map-map (term_at rs) (changed rs change) (take (length s.readings) row.vector) in
+        let a = map-map (changed rs change) (term_at rs) (take (length s.readings) row.vector) in
         let b = sides_changed (take row.used row.conditions) side_left side_right in
         ap (λ l. l ++ map (arg rs₁ change) old_sides) (sym a) ∙ ap (λ l. map (changed rs change) (map (term_at rs) (take (length s.readings) row.vector)) ++ l) b
 
@@ -139,8 +130,8 @@ module _ (rs : List TermRecord) (n : ℕ) (change : Change) (suits : Suits n cha
             record {
               gained = subst (λ ts. Gained rs n ts rs₂ n₂) terms_are (gained_more rs rs₁ n n₁ (map (arg rs change) places) p.gained (map (arg rs₁ change) old_sides) rs₂ n₂ c.gained);
               is = same_row (row_in s rs₂ made) (changed_row rs change (row_in s rs row)) refl
-                  (ap (map (term_at rs₂)) front ∙ (alike (term_at rs₂) (arg rs change) 0 0 places' places same_places (λ j lt. (place_is j lt).1) ∙ sym (map-map (term_at rs) (changed rs change) places)))
-                  (ap (map (literal_of rs₂)) taken ∙ (alike (literal_of rs₂) (λ d. changed_in rs change (literal_of rs d)) no_condition no_condition conditions' conditions same_conditions literal_is ∙ sym (map-map (literal_of rs) (changed_in rs change) conditions)));
+                  (ap (map (term_at rs₂)) front ∙ (alike (term_at rs₂) (arg rs change) 0 0 places' places same_places (λ j lt. (place_is j lt).1) ∙ sym (map-map (changed rs change) (term_at rs) places)))
+                  (ap (map (literal_of rs₂)) taken ∙ (alike (literal_of rs₂) (λ d. changed_in rs change (literal_of rs d)) no_condition no_condition conditions' conditions same_conditions literal_is ∙ sym (map-map (changed_in rs change) (literal_of rs) conditions)));
               inside = record {
                 bits = inside.bits;
                 readings = omega (arith, length-append places' (drop (length s.readings) row.vector), same_places, length_places);

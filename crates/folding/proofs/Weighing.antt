@@ -1,6 +1,7 @@
 -- An older row's conditions, renamed in the bank, are those that the renaming makes of them.
 use Rattle.std.proofs.Common.{◌≡◌, ℕ, Bool, List, [], ◌∷◌, ◌++◌, map, length, get_or, Ok, Err, Decides, sym, refl, ap, ◌∙◌, subst, arith}
 use Rattle.std.specs.List.{AllByRecursion as All}
+use Rattle.std.proofs.lemmas.Simd.{map-map}
 use Rattle.fault.specs.declared.TableFault.{TableFault}
 use Rattle.terms.specs.declared.Condition.{Condition}
 use Rattle.terms.specs.declared.TermRecord.{TermRecord}
@@ -16,7 +17,7 @@ use Rattle.folding.specs.declared.change.Change.TheVariants.{Rename}
 use Rattle.folding.specs.declared.renaming.Renaming.{Renaming}
 use Rattle.folding.specs.Rewriting.{arg, NoRoom, side_places, ConditionsChanged}
 use Rattle.folding.specs.Matched.{sends, Weighed}
-use Rattle.folding.proofs.RowPasses.{alike, map-map, literals_equal}
+use Rattle.folding.proofs.RowPasses.{alike, literals_equal}
 
 -- conditions between terms that stay
 pub literals_stay : (rs rs' : List TermRecord) (n : ℕ) → Stays n rs rs' → (conds : List Condition) → Between n conds (length conds) → literals rs' conds ≡ literals rs conds
@@ -35,7 +36,7 @@ module _ (rs : List TermRecord) (n : ℕ) (r : Renaming) where
     literals-renamed =
         alike (literal_of rs') (λ c. renamed_in (sends r) (literal_of rs c)) no_condition no_condition new old same
         (λ k lt. literals_equal (literal_of rs' (get_or new k no_condition)) (renamed_in (sends r) (literal_of rs (get_or old k no_condition))) (h.lefts k lt).1 (h.rights k lt).1 (h.signs k lt))
-        ∙ sym (map-map (literal_of rs) (renamed_in (sends r)) old)
+        ∙ sym (map-map (renamed_in (sends r)) (literal_of rs) old)
 
     pub goals_between : Between n' new (length new)
     goals_between = record { lefts = λ k lt. (h.lefts k (omega (arith, same))).0; rights = λ k lt. (h.rights k (omega (arith, same))).0 }

@@ -24,10 +24,7 @@ impl View<'_> {
         requires { (k : ℕ) → k < length places.now → slice_index places.now k < self.now.count.terms }
         ensures { MatchOption result (first_higher bound (map (term_at self.now.records.now) places.now) ≡ None) (λ p. (p < self.now.count.terms) × (first_higher bound (map (term_at self.now.records.now) places.now) ≡ Some (term_at self.now.records.now p)) × (bound < height (term_at self.now.records.now p))) }
     {
-        places
-            .iter()
-            .copied()
-            .find(|place| self.records[*place as usize].height > bound as u16)
+        places.iter().copied().find(|place| self.records[*place as usize].height > bound as u16)
     }
 
     /// The first argument exactly one lower than the term, which is higher than 1.

@@ -51,7 +51,7 @@ impl View<'_> {
         requires goals { Between self.now.count.terms goals.now (length goals.now) }
         ensures { Decides result (AllByRecursion (Entails (literals self.now.records.now given.now)) (literals self.now.records.now goals.now)) }
     {
-        // A loop, since each question writes the labels: `all` would ask that its closure may be called whatever they hold.
+        // A loop, since each question writes the labels: for `all` the closure would have to say what it leaves of them.
         for goal in goals {
             if !self.is_entailed(given, *goal, labels) {
                 return false;

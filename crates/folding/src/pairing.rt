@@ -16,14 +16,7 @@ fn bind(to: &mut [Option<u8>], x: u8, y: u8) -> bool
     ensures stronger { Stronger to.old to.new }
     ensures named { (k v : ℕ) → slice_index_or to.new k None ≡ Some v → v < 32 }
 {
-    let slot = x as usize;
-    match to[slot] {
-        Some(old) => old == y,
-        None => {
-            to[slot] = Some(y);
-            true
-        }
-    }
+    *to[x as usize].get_or_insert(y) == y
 }
 
 /// The renaming with these bindings; a name that is not bound becomes name 0.
@@ -37,7 +30,8 @@ fn renaming_of(bound: &[Option<u8>; 32]) -> Renaming
     }
 }
 
-// What is paired stays outside the view: a struct of both would have to promise that the view doesn't change.
+// What is paired stays outside the view: a struct of both would have to promise that the view doesn't change. It is two
+// arrays, since `bind` takes the bindings alone.
 impl View<'_> {
     /// Pairs the terms at two places, and with them their arguments, each older place once.
     #[cycle(pair_all_pair_nodes_pair_places)]
@@ -131,9 +125,7 @@ impl View<'_> {
     {
         let mut image = [None; MOST_TERMS];
         let mut bound = [None; 32];
-        if !self.pair_all(self.count.terms, older, newer, &mut image, &mut bound) {
-            return None;
-        }
-        Some(renaming_of(&bound))
+        self.pair_all(self.count.terms, older, newer, &mut image, &mut bound)
+            .then(|| renaming_of(&bound))
     }
 }

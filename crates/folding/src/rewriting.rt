@@ -38,7 +38,8 @@ fn is_spared(change: &Change, place: u16) -> bool
     }
 }
 
-/// A change on its way through a lent bank. What a place became is remembered, so that each term is visited once, however
+/// A change on its way through a lent bank, in memory of fixed size, since nothing is allocated. What a place became is
+/// remembered, so that each term is visited once, however
 /// often it is shared.
 #[derive(Drop)]
 pub(crate) struct Rewriting<'a> {
@@ -52,7 +53,8 @@ pub(crate) struct Rewriting<'a> {
     ghost is_known: { Known bank.now count.now.terms change.now known } by { Known-prop bank.now count.now.terms change.now known },
 }
 
-// Each method keeps the references to the bank and the count, so that who lent them learns what became of both.
+// Each method keeps the references to the bank, the count and the change, so that who lent them learns what became of them.
+// That a place is in the bank is said in each call, since a type of places would have to name its bank.
 impl Rewriting<'_> {
     /// The place of the term of `node`, which may be that of `place` itself; added where it is new.
     fn add(&mut self, place: u16, node: Node) -> Result<u16, TableFault>

@@ -16,27 +16,21 @@ branch_small [] = omega arith
 branch_small (true ∷ bs) = let ih = branch_small bs in let d = double (length bs) in omega arith
 branch_small (false ∷ bs) = let ih = branch_small bs in let d = double (length bs) in omega arith
 
-odd_half : (n : ℕ) → (1 + 2 * n) / 2 ≡ n
-odd_half n = omega arith
-
-even_half : (n : ℕ) → (0 + 2 * n) / 2 ≡ n
-even_half n = omega arith
-
-odd_rest : (n : ℕ) → (1 + 2 * n) % 2 ≡ 1
-odd_rest n = omega arith
-
-even_rest : (n : ℕ) → (0 + 2 * n) % 2 ≡ 0
-even_rest n = omega arith
-
 pub answers_of_branch : (bs : List Bool) → branch_answers (length bs) (branch_of bs) ≡ bs
 answers_of_branch [] = refl
 answers_of_branch (true ∷ bs) =
-    let p = ap (λ r. eqb r 1) (odd_rest (branch_of bs)) in
-    let q = ap (branch_answers (length bs)) (odd_half (branch_of bs)) ∙ answers_of_branch bs in
+    let n = branch_of bs in
+    let half : (1 + 2 * n) / 2 ≡ n = omega arith in
+    let rest : (1 + 2 * n) % 2 ≡ 1 = omega arith in
+    let q = ap (branch_answers (length bs)) half ∙ answers_of_branch bs in
+    let p = ap (λ r. eqb r 1) rest in
     cc
 answers_of_branch (false ∷ bs) =
-    let p = ap (λ r. eqb r 1) (even_rest (branch_of bs)) in
-    let q = ap (branch_answers (length bs)) (even_half (branch_of bs)) ∙ answers_of_branch bs in
+    let n = branch_of bs in
+    let half : (0 + 2 * n) / 2 ≡ n = omega arith in
+    let rest : (0 + 2 * n) % 2 ≡ 0 = omega arith in
+    let q = ap (branch_answers (length bs)) half ∙ answers_of_branch bs in
+    let p = ap (λ r. eqb r 1) rest in
     cc
 
 low_bit : (b : ℕ) → cond (eqb (b % 2) 1) 1 0 ≡ b % 2

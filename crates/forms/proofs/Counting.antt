@@ -1,12 +1,12 @@
 -- Building with the terms counted comes to one outcome, and what it makes is the form.
 use Rattle.std.proofs.Common.{◌≡◌, ℕ, ◌⊎◌, List, ◌++◌, Some, None, sym, refl, ap, ◌∙◌, subst, inl, inr, arith}
+use Rattle.std.proofs.lemmas.Option.{none-some, same_Some}
 use Rattle.terms.specs.Terms.{Term, name}
 use Rattle.banks.specs.Room.{Roomy, Crowded}
 use Rattle.forms.specs.Rows.{Row, stands, lowest_free}
 use Rattle.forms.specs.Form.{first_higher, lowest, replaced_row, trimmed, Cut, low as cut_low, nameless as cut_nameless, cut as cut_on}
 use Rattle.forms.specs.Counted.{terms_in, Built, made, nameless, crowded, CutIn, low, wanting, full, cut, FormIn}
 use Rattle.forms.specs.Laws.{CountedForm}
-use Rattle.forms.proofs.Shaping.{none_some, one_some}
 
 -- what a counted cutting says of cutting
 abbrev Says : ℕ → Row → Built → Type 0
@@ -50,35 +50,35 @@ module _ (h : ℕ) (row : Row) (t : Term) (x : ℕ) (e : first_higher h row.vect
   -- whatever the other way was, it cut the same term and gave the same name
   moved : (P : Row → Type 0) (u : Term) (y : ℕ) → first_higher h row.vector ≡ Some u → lowest_free (stands row) ≡ Some y → P (next row u y) → P (next row t x)
   moved P u y e₁ free₁ p =
-      subst (λ z. P (next row t z)) (one_some (lowest_free (stands row)) y x free₁ free) (subst (λ w. P (next row w y)) (one_some (first_higher h row.vector) u t e₁ e) p)
+      subst (λ z. P (next row t z)) (same_Some y x (sym free₁ ∙ free)) (subst (λ w. P (next row w y)) (same_Some u t (sym e₁ ∙ e)) p)
 
 cut_once : (h : ℕ) {seen : List Term} {row : Row} {a : Built} → CutIn h seen row a → (b : Built) → CutIn h seen row b → a ≡ b
 cut_once h (low seen row e) b other = by (ways h other)
   where
     by : Ways h seen row b → made row seen ≡ b
     by (inl w) = sym w.1
-    by (inr (inl w)) = absurd (none_some (first_higher h row.vector) w.0 e w.1)
-    by (inr (inr (inl w))) = absurd (none_some (first_higher h row.vector) w.0 e w.2)
-    by (inr (inr (inr w))) = absurd (none_some (first_higher h row.vector) w.0 e w.2)
+    by (inr (inl w)) = absurd (none-some w.0 (sym e ∙ w.1))
+    by (inr (inr (inl w))) = absurd (none-some w.0 (sym e ∙ w.2))
+    by (inr (inr (inr w))) = absurd (none-some w.0 (sym e ∙ w.2))
 cut_once h (wanting seen row t e none) b other = by (ways h other)
   where
     by : Ways h seen row b → nameless ≡ b
-    by (inl w) = absurd (none_some (first_higher h row.vector) t w.0 e)
+    by (inl w) = absurd (none-some t (sym w.0 ∙ e))
     by (inr (inl w)) = sym w.3
-    by (inr (inr (inl w))) = absurd (none_some (lowest_free (stands row)) w.1 none w.3)
-    by (inr (inr (inr w))) = absurd (none_some (lowest_free (stands row)) w.1 none w.3)
+    by (inr (inr (inl w))) = absurd (none-some w.1 (sym none ∙ w.3))
+    by (inr (inr (inr w))) = absurd (none-some w.1 (sym none ∙ w.3))
 cut_once h (full seen row t x e free many) b other = by (ways h other)
   where
     by : Ways h seen row b → crowded ≡ b
-    by (inl w) = absurd (none_some (first_higher h row.vector) t w.0 e)
-    by (inr (inl w)) = absurd (none_some (lowest_free (stands row)) x w.2 free)
+    by (inl w) = absurd (none-some t (sym w.0 ∙ e))
+    by (inr (inl w)) = absurd (none-some x (sym w.2 ∙ free))
     by (inr (inr (inl w))) = sym w.5
     by (inr (inr (inr w))) = absurd (not-both (seen ++ terms_in (next row t x)) (moved h row t x e free (λ r. Roomy (seen ++ terms_in r)) w.0 w.1 w.2 w.3 w.4) many)
 cut_once h (cut seen row t x end e free room rest) b other = by (λ c. cut_once h rest b c) (ways h other)
   where
     by : (CutIn h (seen ++ terms_in (next row t x)) (next row t x) b → end ≡ b) → Ways h seen row b → end ≡ b
-    by same' (inl w) = absurd (none_some (first_higher h row.vector) t w.0 e)
-    by same' (inr (inl w)) = absurd (none_some (lowest_free (stands row)) x w.2 free)
+    by same' (inl w) = absurd (none-some t (sym w.0 ∙ e))
+    by same' (inr (inl w)) = absurd (none-some x (sym w.2 ∙ free))
     by same' (inr (inr (inl w))) = absurd (not-both (seen ++ terms_in (next row t x)) room (moved h row t x e free (λ r. Crowded (seen ++ terms_in r)) w.0 w.1 w.2 w.3 w.4))
     by same' (inr (inr (inr w))) = same' (moved h row t x e free (λ r. CutIn h (seen ++ terms_in r) r b) w.0 w.1 w.2 w.3 w.5)
 

@@ -1,7 +1,7 @@
 -- The form covers all that its candidate covers: a cut's name takes the value of the term that goes.
 use Rattle.std.proofs.Common.{◌≡◌, ℕ, zero, suc, Bool, true, false, cond, ◌||◌, ◌⊎◌, List, [], ◌∷◌, map, Some, None, filter, Option, sym, refl, ap, ◌∙◌, inl, inr, arith}
 use Rattle.std.specs.List.{AllByRecursion as All}
-use Rattle.std.proofs.ByRecursion.{All-take}
+use Rattle.std.proofs.ByRecursion.{All-take, all_kept_by}
 use Rattle.std.proofs.lemmas.Bool.{cond_both, cond-true, cond-false, cases_Bool, or_parts}
 use Rattle.sheet.specs.Runs.{Configuration}
 use Rattle.sheet.specs.Truth.{Meaning}
@@ -86,11 +86,6 @@ cuts_cover m c h (nameless row t e none) covers = tt
 cuts_cover m c h (cut row t x end e free rest) covers =
     cuts_cover m c h rest (replaced_covers m c x (lowest t) row (free_name (stands row) x free) covers)
 
-pub all_kept : {X : Type 0} (P : X → Type 0) (test : X → Bool) (xs : List X) → All P xs → All P (filter test xs)
-all_kept P test [] all = tt
-all_kept P test (x ∷ xs) all =
-    cond_both (test x) (x ∷ filter test xs) (filter test xs) (All P) (λ _. (all.0, all_kept P test xs all.1)) (λ _. all_kept P test xs all.1)
-
 pub all_once : (P : Literal → Type 0) (seen cs : List Literal) → All P cs → All P (without_repeats seen cs)
 all_once P seen [] all = tt
 all_once P seen (c ∷ cs) all =
@@ -106,7 +101,7 @@ trimmed_covers m c h row covers =
       under = covers.under;
       covers = record {
         bits = covers.covers.bits;
-        conditions = All-take P 16 (without_repeats [] named) (all_once P [] named (all_kept P (is_named row.vector) lows (all_kept P (is_low h) row.conditions covers.covers.conditions)));
+        conditions = All-take P 16 (without_repeats [] named) (all_once P [] named (all_kept_by (is_named row.vector) P lows (all_kept_by (is_low h) P row.conditions covers.covers.conditions)));
         readings = covers.covers.readings;
       };
     }

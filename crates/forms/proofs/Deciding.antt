@@ -18,6 +18,7 @@ use Rattle.sheet.specs.System.{System}
 use Rattle.sheet.specs.Truth.{Meaning, arg_values, term_value, term_values, equal, answers, truths}
 use Rattle.sheet.proofs.Growing.{grow-length}
 use Rattle.terms.specs.Terms.{Term, Interpretation, eval, Holds}
+use Rattle.banks.proofs.Gaining.{all_left, all_right}
 use Rattle.forms.specs.Rows.{Row, RowOf}
 use Rattle.forms.specs.Candidate.{no_term, applied, term_over, terms_over, branch_answers, condition_of}
 use Rattle.forms.specs.Safety.{Safe, Unsafe, Breaking, claim_conditions}
@@ -101,14 +102,6 @@ claims_agree s j values terms long plain n (e ∷ es) ok =
     let r = ltb-true e.right (length s.terms) sides.1 in
     ((plain.same e.left (omega arith) (not-true (contains_input s e.left) frees.0), plain.same e.right (omega arith) (not-true (contains_input s e.right) frees.1)), claims_agree s j values terms long plain (suc n) es parts.1)
 
-all_front : {X : Type 0} (P : X → Type 0) (xs ys : List X) → All P (xs ++ ys) → All P xs
-all_front P [] ys all = tt
-all_front P (x ∷ xs) ys all = (all.0, all_front P xs ys all.1)
-
-all_back : {X : Type 0} (P : X → Type 0) (xs ys : List X) → All P (xs ++ ys) → All P ys
-all_back P [] ys all = all
-all_back P (x ∷ xs) ys all = all_back P xs ys all.1
-
 module _ (s : System) (lawful : Lawful s) (form : Row) (shaped : RowOf s form) where
   abbrev over : List Term
   over = terms_over form.vector [] s.terms
@@ -146,11 +139,11 @@ module _ (s : System) (lawful : Lawful s) (form : Row) (shaped : RowOf s form) w
       let j = b.possible.0 in
       let all = b.possible.1 in
       let replies = branch_answers (length s.claims) b.claims in
-      let told = answers_told j over (values_at j) [] replies s.claims (answers_long (length s.claims) b.claims) (agree_at j) (all_front (Holds j) (claim_conditions s form b.claims) form.conditions all) in
+      let told = answers_told j over (values_at j) [] replies s.claims (answers_long (length s.claims) b.claims) (agree_at j) (all_left (Holds j) (claim_conditions s form b.claims) form.conditions all) in
       record {
         meaning = j.meaning;
         configuration = under j;
-        covers = record { by = j; under = refl; covers = record { bits = refl; conditions = all_back (Holds j) (claim_conditions s form b.claims) form.conditions all; readings = refl } };
+        covers = record { by = j; under = refl; covers = record { bits = refl; conditions = all_right (Holds j) (claim_conditions s form b.claims) form.conditions all; readings = refl } };
         broken = ap with_replies told ∙ b.broken;
       }
 

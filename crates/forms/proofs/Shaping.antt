@@ -1,19 +1,21 @@
 -- Row 0 covers every start; candidates and forms have the shape that the laws need; a candidate has one form.
-use Rattle.std.proofs.Common.{◌≡◌, ℕ, zero, suc, ◌^◌, ◌<◌, ◌≤◌, Bool, true, false, ltb, ◌⊎◌, List, [], ◌∷◌, map, length, get_or, Some, None, filter, Option, sym, refl, ap, ◌∙◌, subst, inl, inr, arith}
+use Rattle.std.proofs.Common.{◌≡◌, ℕ, zero, suc, ◌^◌, ◌<◌, ◌≤◌, true, false, ltb, ◌⊎◌, List, [], ◌∷◌, map, length, get_or, Some, None, filter, Option, sym, refl, ap, ◌∙◌, subst, inl, inr, arith}
 use Rattle.std.specs.List.{AllByRecursion as All}
-use Rattle.std.proofs.ByRecursion.{All-take}
+use Rattle.std.proofs.ByRecursion.{All-take, all_kept_by, kept_by_passes}
 use Rattle.std.proofs.lemmas.List.{length-map, length-take}
-use Rattle.std.proofs.lemmas.Bool.{cond_both, cond-true, cond-false, cases_Bool, ltb-false}
+use Rattle.std.proofs.lemmas.Option.{none-some, same_Some}
+use Rattle.std.proofs.lemmas.Bool.{cond-true, cond-false, cases_Bool, ltb-false}
 use Rattle.sheet.specs.declared.syntax.Reading.{Reading}
 use Rattle.sheet.specs.declared.syntax.Start.{Start}
-use Rattle.sheet.specs.Runs.{numbered, start_value, start_reading}
+use Rattle.sheet.specs.Runs.{start_value, start_reading}
 use Rattle.sheet.specs.Truth.{Meaning}
+use Rattle.sheet.proofs.Numbering.{numbered-length}
 use Rattle.terms.specs.Terms.{Term, name, Interpretation, eval, height, replaced, Literal}
 use Rattle.forms.specs.Rows.{Row, RowOf, start_term, start_of, stands, lowest_free}
 use Rattle.forms.specs.Candidate.{or_none, input_names, branch_answers, candidate_with}
 use Rattle.forms.specs.Form.{first_higher, lowest, replaced_row, Cut, low, nameless, cut, is_low, is_named, without_repeats, trimmed, Form}
 use Rattle.forms.specs.Laws.{FirstRowCovers, Formed, OneForm, CandidateShaped}
-use Rattle.forms.proofs.Cutting.{all_kept, all_once}
+use Rattle.forms.proofs.Cutting.{all_once}
 use Rattle.forms.proofs.Shrinking.{some_form}
 
 small_at : (vs : List ℕ) → All (λ v. v < 2 ^ 32) vs → (x : ℕ) → get_or vs x 0 < 2 ^ 32
@@ -37,10 +39,6 @@ pub first_row_covers : FirstRowCovers
 first_row_covers s =
     record { shaped = length-map s.readings start_of; covers = λ m small values all. record { by = at_start m small values (small_at values all); under = refl; covers = record { bits = refl; conditions = tt; readings = start_values m small values (small_at values all) s.readings } } }
 
-numbered_long : {A B : Type 0} (f : ℕ → A → B) (n : ℕ) (xs : List A) → length (numbered f n xs) ≡ length xs
-numbered_long f n [] = refl
-numbered_long f n (x ∷ xs) = ap suc (numbered_long f (suc n) xs)
-
 pub candidate_shaped : CandidateShaped
 candidate_shaped s row b next made = by (input_names s row) made
   where
@@ -48,7 +46,7 @@ candidate_shaped s row b next made = by (input_names s row) made
     by None is = let z : ◌≡◌ {A = ℕ} 0 1 = cc in absurd (omega arith)
     by (Some xs) is =
         let e : candidate_with s row xs (branch_answers (length s.questions) b) ≡ next = cc in
-        subst (RowOf s) e (numbered_long _ 0 s.readings)
+        subst (RowOf s) e (numbered-length _ 0 s.readings)
 
 -- what the cuts leave
 abbrev Left : ℕ → Row → Option Row → Type 0
@@ -75,11 +73,6 @@ none_higher h (t ∷ ts) is = by (λ later. none_higher h ts later) (cases_Bool 
         absurd (omega arith)
     by rest (inr no') = (ltb-false h (height t) no', rest (sym (cond-false (ltb h (height t)) (Some t) (first_higher h ts) no') ∙ is))
 
-kept_all : {X : Type 0} (test : X → Bool) (xs : List X) → All (λ x. test x ≡ true) (filter test xs)
-kept_all test [] = tt
-kept_all test (x ∷ xs) =
-    cond_both (test x) (x ∷ filter test xs) (filter test xs) (All (λ x. test x ≡ true)) (λ e. (e, kept_all test xs)) (λ _. kept_all test xs)
-
 trimmed_formed : (h : ℕ) (row : Row) → first_higher h row.vector ≡ None → Formed h (trimmed h row)
 trimmed_formed h row is =
     let lows = filter (is_low h) row.conditions in
@@ -88,8 +81,8 @@ trimmed_formed h row is =
     let Named = λ (c : Literal). is_named row.vector c ≡ true in
     record {
       low = none_higher h row.vector is;
-      conditions_low = All-take Low 16 (without_repeats [] named) (all_once Low [] named (all_kept Low (is_named row.vector) lows (kept_all (is_low h) row.conditions)));
-      named = All-take Named 16 (without_repeats [] named) (all_once Named [] named (kept_all (is_named row.vector) lows));
+      conditions_low = All-take Low 16 (without_repeats [] named) (all_once Low [] named (all_kept_by (is_named row.vector) Low lows (kept_by_passes (is_low h) row.conditions)));
+      named = All-take Named 16 (without_repeats [] named) (all_once Named [] named (kept_by_passes (is_named row.vector) lows));
       few = omega (arith, length-take 16 (without_repeats [] named));
     }
 
@@ -104,41 +97,35 @@ ways h (low row e) = inl (e, refl)
 ways h (nameless row t e none) = inr (inl (t, e, none, refl))
 ways h (cut row t x end e free rest) = inr (inr (t, x, e, free, rest))
 
-pub none_some : {A : Type 0} (o : Option A) (x : A) → o ≡ None → o ≡ Some x → ⊥
-none_some o x p q = let z : ◌≡◌ {A = ℕ} 0 1 = cc in omega arith
-
-pub one_some : {A : Type 0} (o : Option A) (x y : A) → o ≡ Some x → o ≡ Some y → x ≡ y
-one_some o x y p q = cc
-
 cut_once : (h : ℕ) {row : Row} {a : Option Row} → Cut h row a → (b : Option Row) → Cut h row b → a ≡ b
 cut_once h (low row e) b other = by (ways h other)
   where
     by : Ways h row b → Some row ≡ b
     by (inl w) = sym w.1
-    by (inr (inl w)) = absurd (none_some (first_higher h row.vector) w.0 e w.1)
-    by (inr (inr w)) = absurd (none_some (first_higher h row.vector) w.0 e w.2)
+    by (inr (inl w)) = absurd (none-some w.0 (sym e ∙ w.1))
+    by (inr (inr w)) = absurd (none-some w.0 (sym e ∙ w.2))
 cut_once h (nameless row t e none) b other = by (ways h other)
   where
     by : Ways h row b → None ≡ b
-    by (inl w) = absurd (none_some (first_higher h row.vector) t w.0 e)
+    by (inl w) = absurd (none-some t (sym w.0 ∙ e))
     by (inr (inl w)) = sym w.3
-    by (inr (inr w)) = absurd (none_some (lowest_free (stands row)) w.1 none w.3)
+    by (inr (inr w)) = absurd (none-some w.1 (sym none ∙ w.3))
 cut_once h (cut row t x end e free rest) b other = by (λ c. cut_once h rest b c) (ways h other)
   where
     by : (Cut h (replaced_row (lowest t) (name x) row) b → end ≡ b) → Ways h row b → end ≡ b
-    by same' (inl w) = absurd (none_some (first_higher h row.vector) t w.0 e)
-    by same' (inr (inl w)) = absurd (none_some (lowest_free (stands row)) x w.2 free)
+    by same' (inl w) = absurd (none-some t (sym w.0 ∙ e))
+    by same' (inr (inl w)) = absurd (none-some x (sym w.2 ∙ free))
     by same' (inr (inr w)) =
-        let p = one_some (first_higher h row.vector) w.0 t w.2 e in
-        let q = one_some (lowest_free (stands row)) w.1 x w.3 free in
+        let p = same_Some w.0 t (sym w.2 ∙ e) in
+        let q = same_Some w.1 x (sym w.3 ∙ free) in
         same' (subst (λ y. Cut h (replaced_row (lowest t) (name y) row) b) q (subst (λ u. Cut h (replaced_row (lowest u) (name w.1) row) b) p w.4))
 
 form_once : (h : ℕ) (row : Row) (a b : Option Row) → Form h row a → Form h row b → a ≡ b
 form_once h row None None p q = refl
-form_once h row None (Some b) p q = absurd (none_some None q.0 refl (cut_once h p (Some q.0) q.1))
-form_once h row (Some a) None p q = absurd (none_some None p.0 refl (cut_once h q (Some p.0) p.1))
+form_once h row None (Some b) p q = absurd (none-some q.0 (cut_once h p (Some q.0) q.1))
+form_once h row (Some a) None p q = absurd (none-some p.0 (cut_once h q (Some p.0) p.1))
 form_once h row (Some a) (Some b) p q =
-    let e = one_some (Some p.0) p.0 q.0 refl (cut_once h p.1 (Some q.0) q.1) in
+    let e = same_Some p.0 q.0 (cut_once h p.1 (Some q.0) q.1) in
     ap Some (p.2 ∙ (ap (trimmed h) e ∙ sym q.2))
 
 pub one_form : OneForm

@@ -40,7 +40,8 @@ fn repeat_forms(
     Ok(added)
 }
 
-/// Tests the memory so many times, every second time without its last term; whether it was a bank each time.
+/// Tests the memory so many times, every second time without its last term; whether it was a bank each time. The count
+/// stands beside, as `is_bank` takes it.
 fn repeat_tests(bank: &[TermRecord], terms: usize, times: u32) -> bool {
     (0..times).all(|k| is_bank(bank, terms.saturating_sub((k % 2) as usize)))
 }

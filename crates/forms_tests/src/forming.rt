@@ -589,6 +589,7 @@ fn comes_out(heap: Global, case: &Case) -> Result<bool, Fail> {
     }
     // the form's terms are in the bank
     memory.load(case.more)?;
+    // By a match, since one row may be written with other spare places.
     let same = match (answer, &case.form) {
         (Ok(made), Ok(written)) => same_row(&sheet, &made, &memory.row_of(written)),
         (Err(found), Err(fault)) => found == *fault,

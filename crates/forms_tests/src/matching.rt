@@ -4,6 +4,7 @@ use fault::TableFault;
 use folding::takes;
 use rows::at_or;
 use std::alloc::Global;
+use std::array;
 use std::test::Fail;
 use terms::{MOST_TERMS, Node, Sign};
 
@@ -557,11 +558,8 @@ static CASES: [Case; 32] = [
 ];
 
 // The whole renaming: names that the older vector lacks become x0.
-fn is_written(found: &[u8], written: &[u8]) -> bool {
-    found
-        .iter()
-        .enumerate()
-        .all(|(x, to)| *to == at_or(written, x, 0))
+fn whole(written: &[u8]) -> [u8; 32] {
+    array::from_fn(|x| at_or(written, x, 0))
 }
 
 fn comes_out(heap: Global, case: &Case) -> Result<bool, Fail> {
@@ -582,12 +580,8 @@ fn comes_out(heap: Global, case: &Case) -> Result<bool, Fail> {
         &newer,
         &mut labels,
     );
-    let same = match (answer, case.answer) {
-        (Ok(Some(renaming)), Ok(Some(written))) => is_written(&renaming.to, written),
-        (Ok(None), Ok(None)) => true,
-        (Err(found), Err(fault)) => found == fault,
-        _ => false,
-    };
+    let found = answer.map(|renaming| renaming.map(|renaming| renaming.to));
+    let same = found == case.answer.map(|written| written.map(whole));
     let kept = same_first(&before, &memory.bank, terms as usize);
     Ok(same && memory.count.terms == terms && kept)
 }

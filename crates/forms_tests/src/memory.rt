@@ -105,7 +105,7 @@ pub(crate) fn same_first<T: PartialEq>(a: &[T], b: &[T], used: usize) -> bool {
     used <= a.len() && used <= b.len() && a[..used] == b[..used]
 }
 
-/// Whether two records stand for one row of the sheet.
+/// Whether two records stand for one row of the sheet. Spare places may differ.
 pub(crate) fn same_row(sheet: &Sheet, a: &RowRecord, b: &RowRecord) -> bool {
     same_first(&a.bits, &b.bits, bits_of(sheet).min(16))
         && same_first(&a.vector, &b.vector, readings_of(sheet).min(6))

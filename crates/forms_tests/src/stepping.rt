@@ -533,6 +533,7 @@ fn branch_comes_out(heap: Global, case: &Branch) -> Result<bool, Fail> {
         case.branch,
     );
     memory.load(case.more)?;
+    // By a match, as in `forming`.
     let same = match (answer, alone, &case.candidate) {
         (Ok(made), Ok(asked), Ok(written)) => {
             same_row(&sheet, &made, &memory.row_of(written))

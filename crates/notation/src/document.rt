@@ -22,6 +22,7 @@ fn read(heap: Global, text: &[u8], reader: &mut Reader) -> Result<Vec<Condition>
 {
     let mut conditions = Vec::new(heap);
     let mut rest = text;
+    // Not by split lines: a condition says itself where its line ends.
     while !rest.is_empty() {
         let line = conditions.len() + 1;
         let (read, more) = reader.condition(rest).map_err(|why| Stopped { line, why })?;

@@ -21,6 +21,7 @@ pub(crate) struct Reader {
     arities: [Option<u8>; 256],
 }
 
+// Each call says that the bank is extended, since what was read before is meant in the bank that it leaves.
 impl Reader {
     /// Nothing is read.
     pub(crate) fn new() -> Self {
@@ -40,6 +41,7 @@ impl Reader {
         intern(&mut self.bank, &mut self.count, node).map_err(|_| Unread::TooManyTerms)
     }
 
+    // Symbol and arity beside the node that has both, since each caller knows them.
     /// The term of a symbol over arguments that are read, with the text that follows it.
     fn finish<'t>(
         &mut self,

@@ -6,6 +6,7 @@ ghost use Rattle.plant.specs.Listed.{values_of, fits, listed, FirstFitting, mean
 use super::Model as PlantModel;
 
 /// Up to three values.
+// Like `sheet::Args` over other numbers: `plant` stands on no sheet, and a crate for one enum would be longer.
 #[derive(Clone, Copy, Debug, PartialEq, Eq)]
 pub enum Values {
     Zero,

@@ -69,14 +69,11 @@ fn an_entry_of_another_symbol_or_value_does_not_fit(rt: HostRuntime) {
 }
 
 #[test]
-fn modulus_zero_is_refused(rt: HostRuntime) -> Result<(), Fail> {
-    match Affine::new(0, &[]) {
-        Ok(_) => Err(Fail::new("made")),
-        Err(fault) => {
-            assert_eq!(rt; fault, Fault::Model(ModelFault::ZeroModulus));
-            Ok(())
-        },
-    }
+fn modulus_zero_is_refused(rt: HostRuntime) {
+    assert_eq!(rt;
+        Affine::new(0, &[]).err(),
+        Some(Fault::Model(ModelFault::ZeroModulus))
+    );
 }
 
 #[test]

@@ -2,6 +2,7 @@
 use Rattle.std.proofs.Common.{◌≡◌, ℕ, zero, suc, ◌+◌, ◌<◌, Bool, true, not, ◌&&◌, ltb, List, [], ◌∷◌, ◌++◌, map, length, get_or, set, replicate, is_some, Some, None, Option, sym, refl, ap, ◌∙◌, subst, ap₂, append_assoc, zero-add, arith, length-append}
 use lib.ListN.{length-map}
 use Rattle.std.proofs.lemmas.List.{append-nil, get_or_at, set_at, map-append}
+use Rattle.std.proofs.lemmas.Bool.{and_parts}
 use Rattle.sheet.specs.declared.syntax.Bit.{Bit}
 use Rattle.sheet.specs.declared.syntax.Choice.{Choice}
 use Rattle.sheet.specs.declared.syntax.Equation.{Equation}
@@ -13,7 +14,7 @@ use Rattle.sheet.specs.Format.{kind_of}
 use Rattle.sheet.specs.Lawful.{each_at, given, Lawful}
 use Rattle.sheet.specs.Rules.{names, keeps, obeys_at, count, fresh}
 use Rattle.sheet.specs.System.{System, nothing, add, gather, no_bit, no_reading}
-use Rattle.sheet.proofs.Eaches.{left_true, each_at-index}
+use Rattle.sheet.proofs.Eaches.{each_at-index}
 use Rattle.reader.proofs.Orders.{from-given}
 use Rattle.reader.specs.Canonical.{bit_record, symbol_record, reading_record, term_record, question_record, claim_record, formula_record, choice_record, given_record, next_records, records_of, written_out}
 use Rattle.reader.specs.Law.{InOrder, WrittenAs}
@@ -101,7 +102,7 @@ module _ (s : System) (l : Lawful s) where
   stage b f r i t q c o k v h = record { bits = b; symbols = f; readings = r; inputs = i; terms = t; questions = q; claims = c; formulas = o; choices = k; invariant = v; bound = h }
 
   named : (n : ℕ) (x : Record) → obeys_at s n x ≡ true → names s n x ≡ true
-  named n x h = left_true (names s n x) (keeps s x) h
+  named n x h = (and_parts (names s n x) (keeps s x) h).0
 
   bits_first : Leads nothing (map bit_record s.bits) (stage (map bare_bit s.bits) [] [] 0 [] [] [] [] [] None None)
   bits_first = segment bit_record (λ done. stage (map bare_bit done) [] [] 0 [] [] [] [] [] None None) (λ done x. ap (λ b. stage b [] [] 0 [] [] [] [] [] None None) (sym (map-append bare_bit done (x ∷ [])))) s.bits (λ done x more e. (refl, refl))

@@ -1,6 +1,7 @@
 -- Records that are allowed one after another are those of a lawful sheet in a lawful order, and conversely.
 use Rattle.std.proofs.Common.{◌≡◌, ℕ, ◌<◌, Bool, true, ◌&&◌, ltb, leb, List, [], ◌∷◌, ◌++◌, length, get_or, Some, None, Option, sym, refl, ap, ◌∙◌, subst, zero-add, arith, length-set}
 use Rattle.std.proofs.lemmas.List.{length_push, get_or_push, get_or-set_same}
+use Rattle.std.proofs.lemmas.Bool.{and_from, and_parts}
 use Rattle.std.proofs.lemmas.Bool.Decides.{nat_tests}
 use Rattle.sheet.specs.declared.syntax.Choice.{Choice}
 use Rattle.sheet.specs.declared.syntax.Formula.{Formula}
@@ -13,7 +14,7 @@ use Rattle.sheet.specs.Format.{kind_of}
 use Rattle.sheet.specs.Lawful.{each_at, given, Lawful}
 use Rattle.sheet.specs.Rules.{names, keeps, obeys_at, count, room, fresh}
 use Rattle.sheet.specs.System.{System, nothing, add, gather, no_bit, no_reading}
-use Rattle.sheet.proofs.Eaches.{both_true, left_true, right_true, each_at-index}
+use Rattle.sheet.proofs.Eaches.{each_at-index}
 use Rattle.sheet.proofs.Extending.{Prefix, Extends, extends_refl, extends_trans, prefix_length, prefix-get_or, keeps_same}
 use Rattle.sheet.proofs.Lawfulness.{extends_add, lawful_more}
 use Rattle.reader.specs.Law.{InOrder}
@@ -28,7 +29,7 @@ all_lawful s (x ∷ xs) l a = all_lawful (add s x) xs (lawful_more s x l a.0.roo
 
 pub in_order : (s : System) (xs : List Record) → AllAllowed s xs → InOrder s xs
 in_order s [] a = tt
-in_order s (x ∷ xs) a = (left_true (names s (count s (kind_of x)) x) (keeps s x) a.0.obeys, a.0.fresh, in_order (add s x) xs a.1)
+in_order s (x ∷ xs) a = ((and_parts (names s (count s (kind_of x)) x) (keeps s x) a.0.obeys).0, a.0.fresh, in_order (add s x) xs a.1)
 
 extends_gather : (s : System) (xs : List Record) → InOrder s xs → Extends s (gather s xs)
 extends_gather s [] o = extends_refl s
@@ -111,8 +112,8 @@ module _ (p s : System) (l : Lawful s) where
   allowed_there x h g e =
       let n = count p (kind_of x) in
       let same = keeps_same p s (extends_trans p (add p x) s (extends_add p x g) e) n x (omega arith) h in
-      let there = right_true (names s n x) (keeps s x) (obeys_there x h g e) in
-      record { room = room_there x e; obeys = both_true (names p n x) (keeps p x) h (sym same ∙ there); fresh = g }
+      let there = (and_parts (names s n x) (keeps s x) (obeys_there x h g e)).1 in
+      record { room = room_there x e; obeys = and_from (names p n x) (keeps p x) h (sym same ∙ there); fresh = g }
 
 -- a lawful order of a lawful sheet is allowed
 pub all_allowed : (p : System) (xs : List Record) → InOrder p xs → Lawful (gather p xs) → AllAllowed p xs

@@ -1,5 +1,5 @@
 //! The rules that go by what stands inside a term or a formula.
-ghost use Rattle.std.specs.Prelude.{◌≡◌, ◌+◌, true, not, ◌&&◌, ltb, map, if◌then◌else◌, Some, None};
+ghost use Rattle.std.specs.Prelude.{◌≡◌, ◌+◌, true, not, ◌&&◌, ◌||◌, ltb, max, map, if◌then◌else◌, Some, None};
 ghost use Rattle.sheet.specs.Stored.{term_info_in, formula_info_in};
 ghost use Rattle.sheet.specs.Rules.{arg_count, args_info, both, formula_info, term_info, keeps, contains_input, contains_question, contains_claim};
 ghost use Rattle.reader.specs.Drafts.{draft_of};
@@ -18,18 +18,24 @@ fn arg_count(args: Args) -> u8
     }
 }
 
-// One higher than what stands below, if that is not too high.
-fn one_higher(below: u8, has_input: bool) -> Option<TermInfo>
-    ensures { result ≡ (if ltb (below + 1) 5 then Some (record { height = below + 1; has_input = has_input }) else None) }
+// What stands in either of two terms.
+fn joined(x: TermInfo, y: TermInfo) -> TermInfo
+    ensures { result ≡ record { height = max x.height y.height; has_input = x.has_input || y.has_input } }
 {
-    if below < 4 {
-        Some(TermInfo {
-            height: below + 1,
-            has_input,
-        })
-    } else {
-        None
+    TermInfo {
+        height: x.height.max(y.height),
+        has_input: x.has_input || y.has_input,
     }
+}
+
+// One higher than what stands below, if that is not too high.
+fn one_higher(below: TermInfo) -> Option<TermInfo>
+    ensures { result ≡ (if ltb (below.height + 1) 5 then Some (record { height = below.height + 1; has_input = below.has_input }) else None) }
+{
+    (below.height < 4).then(|| TermInfo {
+        height: below.height + 1,
+        ..below
+    })
 }
 
 fn either(x: FormulaInfo, y: FormulaInfo) -> FormulaInfo
@@ -48,23 +54,11 @@ impl Draft {
     {
         match args {
             Args::Zero => Some(TermInfo::BLANK),
-            Args::One(a) => {
-                let x = self.term_info(a);
-                one_higher(x.height, x.has_input)
-            }
-            Args::Two(a, b) => {
-                let x = self.term_info(a);
-                let y = self.term_info(b);
-                one_higher(x.height.max(y.height), x.has_input || y.has_input)
-            }
+            Args::One(a) => one_higher(self.term_info(a)),
+            Args::Two(a, b) => one_higher(joined(self.term_info(a), self.term_info(b))),
             Args::Three(a, b, c) => {
-                let x = self.term_info(a);
-                let y = self.term_info(b);
-                let z = self.term_info(c);
-                one_higher(
-                    x.height.max(y.height.max(z.height)),
-                    x.has_input || (y.has_input || z.has_input),
-                )
+                let rest = joined(self.term_info(b), self.term_info(c));
+                one_higher(joined(self.term_info(a), rest))
             }
         }
     }
@@ -76,8 +70,8 @@ impl Draft {
         match term {
             Term::Reading(_) => TermInfo::BLANK,
             Term::Input(_) => TermInfo {
-                height: 0,
                 has_input: true,
+                ..TermInfo::BLANK
             },
             Term::Apply(_, args) => self.args_info(args).unwrap(),
         }
@@ -90,11 +84,11 @@ impl Draft {
             Formula::True | Formula::Bit(_) => FormulaInfo::BLANK,
             Formula::Question(_) => FormulaInfo {
                 has_question: true,
-                has_claim: false,
+                ..FormulaInfo::BLANK
             },
             Formula::Claim(_) => FormulaInfo {
-                has_question: false,
                 has_claim: true,
+                ..FormulaInfo::BLANK
             },
             Formula::Not(a) => self.formula_info(a),
             Formula::And(a, b) => either(self.formula_info(a), self.formula_info(b)),

@@ -31,19 +31,19 @@ impl Draft {
             .unwrap_or(0)
     }
 
-    // Beside `formula_info`: the two read other fields of other entries, in one line each.
+    // Beside `formula_info`: each reads another list, whose entries are of another type, in two lines.
     pub(crate) fn term_info(&self, term: u8) -> TermInfo
         ensures { result ≡ slice_index_or (map term_info_in self.now.parts.terms.items) term no_info }
     {
         let entry = self.parts.terms.get(term as usize);
-        entry.map(|entry| entry.info).unwrap_or(TermInfo::BLANK)
+        entry.map_or(TermInfo::BLANK, |entry| entry.info)
     }
 
     pub(crate) fn formula_info(&self, formula: u8) -> FormulaInfo
         ensures { result ≡ slice_index_or (map formula_info_in self.now.parts.formulas.items) formula plain }
     {
         let entry = self.parts.formulas.get(formula as usize);
-        entry.map(|entry| entry.info).unwrap_or(FormulaInfo::BLANK)
+        entry.map_or(FormulaInfo::BLANK, |entry| entry.info)
     }
 
     fn decode(&self, kind: Kind, body: &[u8]) -> Option<Record>

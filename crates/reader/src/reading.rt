@@ -52,18 +52,15 @@ fn advance(
     requires { ReadTo bytes.now place draft.old records.old.items }
     ensures { MatchResult result (λ o. MatchOption o (Ended bytes.now draft.new records.new.items) (λ p. ReadTo bytes.now p draft.new records.new.items × (place.byte < p.byte) × (p.byte ≤ length bytes.now))) (λ e. Failed bytes.now records.new.items e) }
 {
-    let kind = kind_at(bytes, place.byte).map_err(|fault| Fault::Sheet(fault, place))?;
+    let at = |fault| Fault::Sheet(fault, place);
+    let kind = kind_at(bytes, place.byte).map_err(at)?;
     if kind == Kind::End {
-        finish(bytes, place, draft, records.as_slice()).map_err(|fault| Fault::Sheet(
-            fault, place,
-        ))?;
+        finish(bytes, place, draft, records.as_slice()).map_err(at)?;
         return Ok(None);
     }
     let start = place.byte + 1;
     let end = start + kind.body_length();
-    let record = draft
-        .judge(kind, &bytes[start..end])
-        .map_err(|fault| Fault::Sheet(fault, place))?;
+    let record = draft.judge(kind, &bytes[start..end]).map_err(at)?;
     draft.add(record)?;
     records.push(record)?;
     Ok(Some(Place {

@@ -12,13 +12,10 @@ use std::io::{BufRead, BufReader};
 fn digit(c: u8) -> u8
     ensures { result < 16 }
 {
-    match c {
-        b'0'..=b'9' => c - b'0',
-        b'a'..=b'f' => c - b'a' + 10,
-        _ => 0,
-    }
+    (c as char).to_digit(16).unwrap_or(0) as u8
 }
 
+// Not by `hex`, which refuses a line `-`: it stands for no bytes.
 fn bytes_of(heap: Global, line: &[u8]) -> Result<Vec<u8>, AllocError> {
     let mut bytes = Vec::new(heap);
     for pair in line.chunks_exact(2) {
@@ -30,6 +27,7 @@ fn bytes_of(heap: Global, line: &[u8]) -> Result<Vec<u8>, AllocError> {
 fn outcome(heap: Global, bytes: &[u8]) -> Result<String, AllocError> {
     let mut records = Vec::new(heap);
     let sheet = read_records(bytes, heap, &mut records);
+    // A refusal is printed, so nothing is passed on.
     match sheet {
         Ok(_) => {
             let count = records.len() as u128 + 1;

@@ -19,15 +19,9 @@ mod tests {
         fault: SheetFault,
         record: usize,
         byte: usize,
-    ) -> Result<(), Fail> {
-        match r {
-            Err(Failure::Fault(Fault::Sheet(found, place))) => {
-                assert_eq!(rt; found, fault);
-                assert_eq!(rt; place, Place { record, byte });
-                Ok(())
-            }
-            _ => Err(Fail::new("no sheet fault")),
-        }
+    ) {
+        let place = Place { record, byte };
+        assert_eq!(rt; r, Err(Failure::Fault(Fault::Sheet(fault, place))));
     }
 
     fn is_smallest(s: &Sheet) -> bool {
@@ -51,7 +45,7 @@ mod tests {
             SheetFault::Truncated,
             0,
             0,
-        )?;
+        );
         assert!(rt; is_smallest(&place));
         read(LAWFUL, heap, &mut place)?;
         assert!(rt; place.bound == 3 && place.invariant == 1);
@@ -61,7 +55,7 @@ mod tests {
             SheetFault::BadBody,
             2,
             6,
-        )?;
+        );
         assert!(rt; place.bound == 3 && place.invariant == 1);
         assert!(rt; place.parts.bits.len() == 1 && place.parts.formulas.len() == 2);
         Ok(())

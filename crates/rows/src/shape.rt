@@ -4,12 +4,15 @@ ghost use Rattle.sheet.specs.View.{sheet_of};
 
 use sheet::Sheet;
 
+/// How many bits a row of the sheet has.
+// One field's length, here and below, named for what its contract says.
 pub fn bits_of(sheet: &Sheet) -> usize
     ensures { result ≡ length (sheet_of sheet.now).bits }
 {
     sheet.parts.bits.len()
 }
 
+/// How many readings a row of the sheet has.
 pub fn readings_of(sheet: &Sheet) -> usize
     ensures { result ≡ length (sheet_of sheet.now).readings }
 {

@@ -15,6 +15,7 @@ fn are_terms(places: &[u16], terms: usize) -> bool
     places.iter().all(|place| (*place as usize) < terms)
 }
 
+// Said in `closure` too: a call of `terms` for one comparison would want a contract and an edit.
 fn are_between(conditions: &[Condition], terms: usize) -> bool
     ensures { Decides result (Between terms conditions.now (length conditions.now)) }
 {

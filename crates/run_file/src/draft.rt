@@ -29,6 +29,7 @@ fn numbers(heap: Global, words: &[&[u8]]) -> Result<Vec<u32>, Halt>
 }
 
 /// Refuses what was given before.
+// By a test: what is refused is that there is one.
 fn check_fresh<T>(given: &Option<T>, repeated: Problem) -> Result<(), Problem>
     ensures { result ≡ fresh repeated given.now }
 {
@@ -53,10 +54,10 @@ impl Draft {
     fn check_named(&self) -> Result<(), Problem>
         ensures { result ≡ named (so_far self.now).plant }
     {
-        if self.plant.is_none() {
-            return Err(Problem::PlantNotFirst);
-        }
-        Ok(())
+        self.plant
+            .as_ref()
+            .map(|_| ())
+            .ok_or(Problem::PlantNotFirst)
     }
 
     /// Names the plant, which one number makes.
@@ -75,8 +76,8 @@ impl Draft {
     {
         match &mut self.plant {
             Some(Plant::Listed { entries, .. }) => entries.push(entry_of(numbers)?)?,
-            Some(Plant::Affine { .. }) => return Err(Halt::Problem(Problem::EntryUnderAffine)),
-            None => return Err(Halt::Problem(Problem::PlantNotFirst)),
+            Some(Plant::Affine { .. }) => return Err(Problem::EntryUnderAffine.into()),
+            None => return Err(Problem::PlantNotFirst.into()),
         }
         Ok(())
     }
@@ -86,8 +87,8 @@ impl Draft {
     {
         match &mut self.plant {
             Some(Plant::Affine { curves, .. }) => curves.push(curve_of(numbers)?)?,
-            Some(Plant::Listed { .. }) => return Err(Halt::Problem(Problem::CurveUnderListed)),
-            None => return Err(Halt::Problem(Problem::PlantNotFirst)),
+            Some(Plant::Listed { .. }) => return Err(Problem::CurveUnderListed.into()),
+            None => return Err(Problem::PlantNotFirst.into()),
         }
         Ok(())
     }
@@ -120,6 +121,7 @@ impl Draft {
     }
 
     /// Takes one directive with its numbers.
+    // Named first and taken after its numbers, since an unknown name is refused before a wrong number.
     fn take(&mut self, heap: Global, keyword: Keyword, numbers: Vec<u32>) -> Result<(), Halt>
         ensures { Means (λ _. so_far self.new) result (acted keyword (so_far self.old) numbers.items) }
     {

@@ -46,6 +46,7 @@ fn with_digit(value: u32, digit: u8) -> Result<u32, Problem>
 }
 
 /// The number that the word writes.
+// Not `parse`, which takes text and a sign, and finds a number too large before a later byte that is no digit.
 pub(crate) fn number(word: &[u8]) -> Result<u32, Problem>
     ensures { result ≡ number_of word.now }
 {

@@ -52,6 +52,7 @@ pub struct LineError {
 }
 
 /// Why a run file is not read.
+// Not one generic enum with `run_file`'s `Halt`: `From<E>` would overlap with `From<AllocError>`.
 #[derive(Clone, Copy, Debug, PartialEq, Eq)]
 pub enum ReadFailure {
     Line(LineError),

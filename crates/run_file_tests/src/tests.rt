@@ -7,21 +7,9 @@ use std::process::Abort;
 use std::test::Fail;
 
 /// The file is refused at this line for this problem.
-fn refused(
-    rt: &impl Abort,
-    heap: Global,
-    bytes: &[u8],
-    line: usize,
-    problem: Problem,
-) -> Result<(), Fail> {
-    match read(heap, bytes) {
-        Ok(_) => Err(Fail::new("the file was read")),
-        Err(ReadFailure::Memory) => Err(Fail::new("no memory")),
-        Err(ReadFailure::Line(error)) => {
-            assert_eq!(rt; error, LineError { line, problem });
-            Ok(())
-        },
-    }
+fn refused(rt: &impl Abort, heap: Global, bytes: &[u8], line: usize, problem: Problem) {
+    let error = LineError { line, problem };
+    assert_eq!(rt; read(heap, bytes).err(), Some(ReadFailure::Line(error)));
 }
 
 /// The numbers of the file.
@@ -31,6 +19,7 @@ fn numbers(rt: &impl Abort, file: &RunFile, starts: &[u32], steps: u32, inputs: 
     assert!(rt; file.inputs.as_slice() == inputs);
 }
 
+// Beside `is_affine`: each takes another arm of the plant.
 fn is_listed(rt: &impl Abort, plant: &Plant, expected: u32, list: &[Entry]) -> Result<(), Fail> {
     match plant {
         Plant::Listed { default, entries } => {
@@ -119,83 +108,83 @@ fn blanks_comments_and_line_ends(rt: HostRuntime) -> Result<(), Fail> {
 }
 
 #[test]
-fn words_that_are_no_directive_or_number(rt: HostRuntime) -> Result<(), Fail> {
+fn words_that_are_no_directive_or_number(rt: HostRuntime) {
     let heap = rt.alloc();
-    refused(&rt, heap, b"listed 0\nstop 1", 2, Problem::UnknownDirective)?;
-    refused(&rt, heap, b"List 0", 1, Problem::UnknownDirective)?;
-    refused(&rt, heap, b"\xc3\xbf 0", 1, Problem::UnknownDirective)?;
-    refused(&rt, heap, b"listed -1", 1, Problem::NotANumber)?;
-    refused(&rt, heap, b"listed 0x1", 1, Problem::NotANumber)?;
+    refused(&rt, heap, b"listed 0\nstop 1", 2, Problem::UnknownDirective);
+    refused(&rt, heap, b"List 0", 1, Problem::UnknownDirective);
+    refused(&rt, heap, b"\xc3\xbf 0", 1, Problem::UnknownDirective);
+    refused(&rt, heap, b"listed -1", 1, Problem::NotANumber);
+    refused(&rt, heap, b"listed 0x1", 1, Problem::NotANumber);
     refused(
         &rt,
         heap,
         b"listed 99999999999999999999999a",
         1,
         Problem::NotANumber,
-    )?;
-    refused(&rt, heap, b"listed 4294967296", 1, Problem::NumberTooLarge)?;
+    );
+    refused(&rt, heap, b"listed 4294967296", 1, Problem::NumberTooLarge);
     refused(
         &rt,
         heap,
         b"listed 99999999999999999999999999",
         1,
         Problem::NumberTooLarge,
-    )
+    );
 }
 
 #[test]
-fn counts_and_ranges(rt: HostRuntime) -> Result<(), Fail> {
+fn counts_and_ranges(rt: HostRuntime) {
     let heap = rt.alloc();
-    refused(&rt, heap, b"listed", 1, Problem::TooFewNumbers)?;
-    refused(&rt, heap, b"affine 1 2", 1, Problem::TooManyNumbers)?;
-    refused(&rt, heap, b"listed 0\nentry 1", 2, Problem::TooFewNumbers)?;
+    refused(&rt, heap, b"listed", 1, Problem::TooFewNumbers);
+    refused(&rt, heap, b"affine 1 2", 1, Problem::TooManyNumbers);
+    refused(&rt, heap, b"listed 0\nentry 1", 2, Problem::TooFewNumbers);
     refused(
         &rt,
         heap,
         b"listed 0\nentry 1 2 3 4 5 6",
         2,
         Problem::TooManyNumbers,
-    )?;
+    );
     refused(
         &rt,
         heap,
         b"listed 0\nentry 32 0",
         2,
         Problem::SymbolTooLarge,
-    )?;
+    );
     refused(
         &rt,
         heap,
         b"affine 9\ncurve 1 2 3 4",
         2,
         Problem::TooFewNumbers,
-    )?;
+    );
     refused(
         &rt,
         heap,
         b"affine 9\ncurve 1 2 3 4 5 6",
         2,
         Problem::TooManyNumbers,
-    )?;
+    );
     refused(
         &rt,
         heap,
         b"affine 9\ncurve 32 0 0 0 0",
         2,
         Problem::SymbolTooLarge,
-    )?;
+    );
     refused(
         &rt,
         heap,
         b"affine 9\ncurve 31 0 0 65536 0",
         2,
         Problem::CoefficientTooLarge,
-    )?;
-    refused(&rt, heap, b"listed 0\nsteps", 2, Problem::TooFewNumbers)
+    );
+    refused(&rt, heap, b"listed 0\nsteps", 2, Problem::TooFewNumbers);
 }
 
 #[test]
-fn the_plant_and_the_order_of_lines(rt: HostRuntime) -> Result<(), Fail> {
+fn the_plant_and_the_order_of_lines(rt: HostRuntime) {
     let heap = rt.alloc();
     refused(
         &rt,
@@ -203,58 +192,56 @@ fn the_plant_and_the_order_of_lines(rt: HostRuntime) -> Result<(), Fail> {
         b"\n\nsteps 1\nlisted 0",
         3,
         Problem::PlantNotFirst,
-    )?;
-    refused(&rt, heap, b"entry 1 2\nlisted 0", 1, Problem::PlantNotFirst)?;
-    refused(&rt, heap, b"listed 0\nlisted 0", 2, Problem::PlantRepeated)?;
-    refused(&rt, heap, b"listed 0\naffine 9", 2, Problem::PlantRepeated)?;
+    );
+    refused(&rt, heap, b"entry 1 2\nlisted 0", 1, Problem::PlantNotFirst);
+    refused(&rt, heap, b"listed 0\nlisted 0", 2, Problem::PlantRepeated);
+    refused(&rt, heap, b"listed 0\naffine 9", 2, Problem::PlantRepeated);
     refused(
         &rt,
         heap,
         b"affine 9\nentry 1 2",
         2,
         Problem::EntryUnderAffine,
-    )?;
+    );
     refused(
         &rt,
         heap,
         b"listed 0\ncurve 1 2 3 4 5",
         2,
         Problem::CurveUnderListed,
-    )?;
+    );
     refused(
         &rt,
         heap,
         b"listed 0\nstart\nstart",
         3,
         Problem::StartRepeated,
-    )?;
+    );
     refused(
         &rt,
         heap,
         b"listed 0\nsteps 1\nsteps 1",
         3,
         Problem::StepsRepeated,
-    )
+    );
 }
 
 #[test]
-fn what_is_missing_at_the_end(rt: HostRuntime) -> Result<(), Fail> {
+fn what_is_missing_at_the_end(rt: HostRuntime) {
     let heap = rt.alloc();
-    refused(&rt, heap, b"", 1, Problem::PlantMissing)?;
-    refused(&rt, heap, b"\n# no plant\n", 3, Problem::PlantMissing)?;
-    refused(&rt, heap, b"listed 0", 1, Problem::StartMissing)?;
-    refused(&rt, heap, b"listed 0\nstart 1\n", 3, Problem::StepsMissing)
+    refused(&rt, heap, b"", 1, Problem::PlantMissing);
+    refused(&rt, heap, b"\n# no plant\n", 3, Problem::PlantMissing);
+    refused(&rt, heap, b"listed 0", 1, Problem::StartMissing);
+    refused(&rt, heap, b"listed 0\nstart 1\n", 3, Problem::StepsMissing);
 }
 
 #[test]
 fn a_failure_prints_its_line(rt: HostRuntime) -> Result<(), Fail> {
     let heap = rt.alloc();
-    match read(heap, b"listed 0\nstop") {
-        Ok(_) => Err(Fail::new("the file was read")),
-        Err(failure) => {
-            let text = failure.to_string(heap)?;
-            assert!(rt; text.as_str() == "run file line 2: unknown directive");
-            Ok(())
-        }
-    }
+    let failure = read(heap, b"listed 0\nstop")
+        .err()
+        .ok_or_else(|| Fail::new("the file was read"))?;
+    let text = failure.to_string(heap)?;
+    assert_eq!(rt; text.as_str(), "run file line 2: unknown directive");
+    Ok(())
 }

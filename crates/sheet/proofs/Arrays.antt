@@ -1,10 +1,10 @@
 -- Arrays that a closure gives place by place.
-use Rattle.std.proofs.Common.{◌≡◌, ℕ, zero, suc, ◌+◌, ◌<◌, ◌≤◌, List, length, get_or, take, subst, sym, ◌∙◌, ⊎_elim, arith}
+use Rattle.std.proofs.Common.{◌≡◌, ℕ, zero, suc, ◌+◌, ◌<◌, ◌≤◌, List, length, get_or, take, set, subst, sym, ◌∙◌, ⊎_elim, arith, below_more}
 use denote.Param.Members.{Mut}
 use Rattle.std.specs.Array.{IsFromFnResult, IsFromFnResultFrom}
 use Rattle.std.specs.Fn.{Called}
 use Rattle.std.proofs.lemmas.Bool.{cases_lt}
-use Rattle.std.proofs.lemmas.List.{ext_get_or, get_or-take, get_or_past, length-take-le}
+use Rattle.std.proofs.lemmas.List.{ext_get_or, get_or-take, get_or-set_same, get_or-set_other, get_or_past, length-take-le}
 
 -- each call gives h of its number, and leaves the closure as it is
 abbrev pub Says : {F B : Type 0} → Mut F (ℕ × Unit {0}) B → F → (ℕ → B) → Type 0
@@ -31,3 +31,8 @@ begins {F} {B} {g} {f} values d says ys n made_ m is few =
 -- What is filled in as far as the values go agrees everywhere.
 pub filled_all : {V : Type 0} (d : V) (out values : List V) → ((k : ℕ) → k < length out → get_or out k d ≡ get_or values k d) → length values ≤ length out → (k : ℕ) → get_or out k d ≡ get_or values k d
 filled_all d out values h long k = ⊎_elim (λ lt. h k lt) (λ ge. get_or_past out k d ge ∙ sym (get_or_past values k d (omega arith))) (cases_lt k (length out))
+
+-- What is true of each place stays true when one more is written.
+pub set_more : {V : Type 0} (P : ℕ → V → Type 0) (xs : List V) (i : ℕ) (x d : V) → i < length xs → ((k : ℕ) → k < i → P k (get_or xs k d)) → P i x → (k : ℕ) → k < i + 1 → P k (get_or (set xs i x) k d)
+set_more P xs i x d inside old new =
+    below_more (λ k. P k (get_or (set xs i x) k d)) i (λ k lt. subst (P k) (sym (get_or-set_other xs i k x d (λ e. omega arith))) (old k lt)) (subst (P i) (sym (get_or-set_same xs i x d inside)) new)

@@ -1,6 +1,7 @@
 -- What later records leave as it was, and that the rules for a record do not change by it.
 use Rattle.std.proofs.Common.{◌≡◌, ℕ, ◌+◌, ◌<◌, ◌≤◌, max, Bool, true, not, ◌&&◌, ◌||◌, eqb, ltb, List, [], ◌∷◌, ◌++◌, length, get_or, Some, Option, sym, refl, ap, ◌∙◌, ap₂, append_assoc, arith, length-append}
 use Rattle.std.proofs.lemmas.List.{append-nil, get_or_append_left}
+use Rattle.std.proofs.lemmas.Bool.{and_parts}
 use Rattle.std.proofs.lemmas.Bool.Decides.{nat_tests}
 use Rattle.sheet.specs.declared.syntax.Args.{Args}
 use Rattle.sheet.specs.declared.syntax.Args.TheVariants.{Zero, One, Two, Three}
@@ -17,7 +18,6 @@ use Rattle.sheet.specs.Format.{kind_of}
 use Rattle.sheet.specs.Grow.{grow}
 use Rattle.sheet.specs.Rules.{term_info, term_infos, args_info, args_below, formula_info, formula_infos, no_info, plain, names, keeps, count, contains_claim, contains_question}
 use Rattle.sheet.specs.System.{System, no_bit, no_reading}
-use Rattle.sheet.proofs.Eaches.{right_true}
 use Rattle.sheet.proofs.Growing.{grow-length, grow-keeps}
 
 -- xs stands at the front of ys
@@ -177,7 +177,7 @@ module _ (r s : System) (e : Extends r s) where
   keeps_same n (Record.Term (Term.Input i)) l h = refl
   keeps_same n (Record.Term (Term.Apply f args)) l h =
       let a = prefix-get_or r.symbols s.symbols f 0 e.symbols (grind (arith, nat_tests)) in
-      let i = args_info_same n args l (right_true (ltb f (length r.symbols)) (args_below n args) h) in
+      let i = args_info_same n args l (and_parts (ltb f (length r.symbols)) (args_below n args) h).1 in
       rw (a, i)
   keeps_same n (Record.Question q) l h = refl
   keeps_same n (Record.Claim q) l h =

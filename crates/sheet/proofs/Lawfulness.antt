@@ -1,6 +1,8 @@
 -- One record more keeps a sheet lawful.
 use Rattle.std.proofs.Common.{◌≡◌, ℕ, suc, ◌+◌, ◌<◌, ◌≤◌, Bool, true, false, not, eqb, ltb, leb, ◌⊎◌, List, [], ◌∷◌, ◌++◌, length, get_or, set, is_some, Some, None, Option, sym, refl, ap, ◌∙◌, inl, inr, zero-add, arith, length-set}
 use Rattle.std.proofs.lemmas.List.{get_or_append_left, get_or_past, get_or-set_same, get_or-set_other, set_past, length_push}
+use Rattle.std.proofs.lemmas.Option.{none-some}
+use Rattle.std.proofs.lemmas.Bool.{and_from, and_parts}
 use Rattle.std.proofs.lemmas.Bool.Decides.{nat_tests, eqb_tells, leb_tells}
 use Rattle.sheet.specs.declared.syntax.Bit.{Bit}
 use Rattle.sheet.specs.declared.syntax.Reading.{Reading}
@@ -10,7 +12,7 @@ use Rattle.sheet.specs.Format.{kind_of}
 use Rattle.sheet.specs.Lawful.{each_at, given, Few, LawfulIn, Lawful}
 use Rattle.sheet.specs.Rules.{names, keeps, obeys_at, count, room, fresh}
 use Rattle.sheet.specs.System.{System, add, no_bit, no_reading}
-use Rattle.sheet.proofs.Eaches.{both_true, left_true, right_true, each_push, each_set, each_at-index, each_weaker}
+use Rattle.sheet.proofs.Eaches.{each_push, each_set, each_at-index, each_weaker}
 use Rattle.sheet.proofs.Extending.{Kept, next_of_bit, next_of_reading, StartsKept, GivenKept, Extends, extends_refl, prefix_push, prefix_length, names_kept, keeps_same}
 
 abbrev new_bit : Bool → Bit
@@ -25,28 +27,25 @@ bit_with x f = record { start = x.start; next = Some f }
 abbrev reading_with : Reading → ℕ → Reading
 reading_with x k = record { start = x.start; next = Some k }
 
-none_some : {A : Type 0} {x : A} → ◌≡◌ {A = Option A} None (Some x) → ⊥
-none_some e = let z : ◌≡◌ {A = ℕ} 0 1 = cc in omega arith
-
 none_given : (o : Option ℕ) → not (is_some o) ≡ true → o ≡ None
 none_given None h = refl
 none_given (Some n) h = let z : ◌≡◌ {A = ℕ} 0 1 = cc in absurd (omega arith)
 
 given_none : (o p : Option ℕ) → not (is_some o) ≡ true → GivenKept o p
-given_none o p h n e = absurd (none_some (sym (none_given o h) ∙ e))
+given_none o p h n e = absurd (none-some _ (sym (none_given o h) ∙ e))
 
 kept_push : {A : Type 0} (next : A → Option ℕ) (d : A) → next d ≡ None → (xs : List A) (x : A) → Kept next d xs (xs ++ x ∷ [])
 kept_push next d none xs x i n e = by_order (leb_tells (suc i) (length xs))
   where
     by_order : ((ltb i (length xs) ≡ true) × (i < length xs)) ⊎ ((ltb i (length xs) ≡ false) × (length xs < suc i)) → next (get_or (xs ++ x ∷ []) i d) ≡ Some n
     by_order (inl t) = ap next (get_or_append_left xs (x ∷ []) d i t.1) ∙ e
-    by_order (inr t) = absurd (none_some (sym none ∙ (ap next (sym (get_or_past xs i d (omega (arith, t.1)))) ∙ e)))
+    by_order (inr t) = absurd (none-some _ (sym none ∙ (ap next (sym (get_or_past xs i d (omega (arith, t.1)))) ∙ e)))
 
 kept_set : {A : Type 0} (next : A → Option ℕ) (d : A) (xs : List A) (b : ℕ) (y : A) → next (get_or xs b d) ≡ None → Kept next d xs (set xs b y)
 kept_set next d xs b y none i n e = by_place (eqb_tells i b)
   where
     by_place : ((eqb i b ≡ true) × (i ≡ b)) ⊎ ((eqb i b ≡ false) × (i ≡ b → ⊥)) → next (get_or (set xs b y) i d) ≡ Some n
-    by_place (inl t) = absurd (none_some (sym none ∙ (ap (λ j. next (get_or xs j d)) (sym t.1) ∙ e)))
+    by_place (inl t) = absurd (none-some _ (sym none ∙ (ap (λ j. next (get_or xs j d)) (sym t.1) ∙ e)))
     by_place (inr t) = ap next (get_or-set_other xs b i y d t.1) ∙ e
 
 starts_push : (xs : List Reading) (x : Reading) → StartsKept xs (xs ++ x ∷ [])
@@ -79,8 +78,8 @@ extends_add s (Record.Bound b) h = let e = extends_refl s in record { bits = e.b
 -- the rules that a record obeys in r it obeys in every extension of r
 pub obeys_kept : (r s : System) → Extends r s → (n : ℕ) (x : Record) → n ≤ count r (kind_of x) → obeys_at r n x ≡ true → obeys_at s n x ≡ true
 obeys_kept r s e n x l h =
-    let a = left_true (names r n x) (keeps r x) h in
-    both_true (names s n x) (keeps s x) (names_kept r s e n x a) (keeps_same r s e n x l a ∙ right_true (names r n x) (keeps r x) h)
+    let a = and_parts (names r n x) (keeps r x) h in
+    and_from (names s n x) (keeps s x) (names_kept r s e n x a.0) (keeps_same r s e n x l a.0 ∙ a.1)
 
 given_weaker : (p q : ℕ → Bool) (o : Option ℕ) → ((n : ℕ) → p n ≡ true → q n ≡ true) → given p o ≡ true → given q o ≡ true
 given_weaker p q None w h = refl

@@ -2,6 +2,7 @@
 use Rattle.std.proofs.Common.{◌≡◌, ℕ, zero, suc, ◌<◌, ◌≤◌, Bool, true, false, cond, eqb, ltb, ◌⊎◌, List, [], map, length, get_or, take, set, replicate, Some, None, Option, sym, refl, ap, ◌∙◌, ap₂, inl, inr, ⊎_elim, arith, length-take}
 use lib.ListN.{length-map}
 use Rattle.std.proofs.lemmas.List.{get_or-set_same, get_or-set_other, get_or_past, get_or-take, get_or-map, set_past}
+use Rattle.std.proofs.lemmas.Option.{none-some, same_Some}
 use Rattle.std.proofs.lemmas.Bool.Decides.{nat_tests, eqb_tells, leb_tells}
 use Rattle.sheet.specs.declared.syntax.Choice.{Choice}
 use Rattle.sheet.specs.declared.syntax.Formula.{Formula}
@@ -41,30 +42,24 @@ remembers_set {V} d values known n v r is k w e =
         let past : length known ≤ n = omega (arith, t.1) in
         r k w (ap (λ l. get_or l k None) (sym (set_past known n (Some v) past)) ∙ e)
 
-none_some : {A : Type 0} {x : A} → ◌≡◌ {A = Option A} None (Some x) → ⊥
-none_some e = let z : ◌≡◌ {A = ℕ} 0 1 = cc in omega arith
-
-some_same : {A : Type 0} {x y : A} → ◌≡◌ {A = Option A} (Some x) (Some y) → x ≡ y
-some_same e = cc
-
 -- a formula with operands, and one without
 connected_is : (bits questions claims seen : List Bool) (f : Formula) (a b : ℕ) → operands_of f ≡ Some (a, b) → truth_of bits questions claims seen f ≡ connected f (get_or seen a false) (get_or seen b false)
-connected_is bits questions claims seen Formula.True a b e = absurd (none_some e)
-connected_is bits questions claims seen (Formula.Bit x) a b e = absurd (none_some e)
-connected_is bits questions claims seen (Formula.Question x) a b e = absurd (none_some e)
-connected_is bits questions claims seen (Formula.Claim x) a b e = absurd (none_some e)
-connected_is bits questions claims seen (Formula.Not x) a b e = let p = ap (λ (t : ℕ × ℕ). t.0) (some_same e) in rw p
-connected_is bits questions claims seen (Formula.And x y) a b e = let p = ap (λ (t : ℕ × ℕ). t.0) (some_same e) in let q = ap (λ (t : ℕ × ℕ). t.1) (some_same e) in rw (p, q)
-connected_is bits questions claims seen (Formula.Or x y) a b e = let p = ap (λ (t : ℕ × ℕ). t.0) (some_same e) in let q = ap (λ (t : ℕ × ℕ). t.1) (some_same e) in rw (p, q)
+connected_is bits questions claims seen Formula.True a b e = absurd (none-some _ e)
+connected_is bits questions claims seen (Formula.Bit x) a b e = absurd (none-some _ e)
+connected_is bits questions claims seen (Formula.Question x) a b e = absurd (none-some _ e)
+connected_is bits questions claims seen (Formula.Claim x) a b e = absurd (none-some _ e)
+connected_is bits questions claims seen (Formula.Not x) a b e = let p = ap (λ (t : ℕ × ℕ). t.0) (same_Some _ _ e) in rw p
+connected_is bits questions claims seen (Formula.And x y) a b e = let p = ap (λ (t : ℕ × ℕ). t.0) (same_Some _ _ e) in let q = ap (λ (t : ℕ × ℕ). t.1) (same_Some _ _ e) in rw (p, q)
+connected_is bits questions claims seen (Formula.Or x y) a b e = let p = ap (λ (t : ℕ × ℕ). t.0) (same_Some _ _ e) in let q = ap (λ (t : ℕ × ℕ). t.1) (same_Some _ _ e) in rw (p, q)
 
 grounded_is : (bits questions claims seen : List Bool) (f : Formula) → operands_of f ≡ None → truth_of bits questions claims seen f ≡ grounded bits questions claims f
 grounded_is bits questions claims seen Formula.True e = refl
 grounded_is bits questions claims seen (Formula.Bit x) e = refl
 grounded_is bits questions claims seen (Formula.Question x) e = refl
 grounded_is bits questions claims seen (Formula.Claim x) e = refl
-grounded_is bits questions claims seen (Formula.Not x) e = absurd (none_some (sym e))
-grounded_is bits questions claims seen (Formula.And x y) e = absurd (none_some (sym e))
-grounded_is bits questions claims seen (Formula.Or x y) e = absurd (none_some (sym e))
+grounded_is bits questions claims seen (Formula.Not x) e = absurd (none-some _ (sym e))
+grounded_is bits questions claims seen (Formula.And x y) e = absurd (none-some _ (sym e))
+grounded_is bits questions claims seen (Formula.Or x y) e = absurd (none-some _ (sym e))
 
 module _ (bits questions claims : List Bool) (entries : List FormulaEntry) (n : ℕ) (inside : n < length entries) (entry : FormulaEntry) (is : entry ≡ get_or entries n entry) where
   values : List Bool
@@ -120,14 +115,14 @@ before_all d values n count e = by_order (leb_tells (suc n) count)
     by_order (inl t) = before_here d values n count t.1
     by_order (inr t) = before_none d values n count (omega (arith, t.1)) ∙ sym (get_or_past values n d (omega (arith, t.1)))
 
--- nothing is remembered at first
-nones : {V : Type 0} (n k : ℕ) → ◌≡◌ {A = Option V} (get_or (replicate n None) k None) None
+-- of nothing known None is read
+pub nones : {V : Type 0} (n k : ℕ) → ◌≡◌ {A = Option V} (get_or (replicate n None) k None) None
 nones zero k = refl
 nones (suc n) zero = refl
 nones (suc n) (suc k) = nones n k
 
 pub remembers_none : {V : Type 0} (d : V) (values : List V) (n : ℕ) → Remembers d values (replicate n None)
-remembers_none d _ n k v e = absurd (none_some (sym (nones n k) ∙ e))
+remembers_none d _ n k v e = absurd (none-some _ (sym (nones n k) ∙ e))
 
 pub truths-length : (bits questions claims : List Bool) (entries : List FormulaEntry) → length entries ≡ length (truths bits questions claims (map formula_in entries))
 truths-length bits questions claims entries = omega (arith, grow-length (truth_of bits questions claims) [] (map formula_in entries), length-map entries formula_in)

@@ -10,6 +10,7 @@ pub fn recall<T: Copy>(known: &[Option<T>], n: usize) -> Option<T>
 }
 
 /// Notes what is known of thing n; nothing past the end.
+// By index: what a write through the slice's `get_mut` leaves is not known.
 pub fn remember<T: Copy>(known: &mut [Option<T>], n: usize, value: T)
     ensures { known.new ≡ slice_set known.old n (Some value) }
 {

@@ -119,6 +119,7 @@ pub struct TermEntry {
 }
 
 /// A formula with what the rules ask of it.
+// Beside `TermEntry`: the definitions name what each of the two holds.
 #[derive(Clone, Copy, Debug, PartialEq, Eq)]
 pub struct FormulaEntry {
     pub formula: Formula,

@@ -9,7 +9,8 @@ use crate::memo::{recall, remember};
 use crate::sheet::Sheet;
 use crate::syntax::{Choice, Formula, FormulaEntry};
 
-// How many values are remembered: as many as there can be formulas or choices.
+// How many values are remembered: as many as there can be formulas or choices, in memory of fixed size, since nothing is
+// allocated.
 const MOST: usize = 64;
 
 // The formulas that a formula is made of.
@@ -178,7 +179,8 @@ pub struct Resolved {
 }
 
 impl Sheet {
-    // What is known of the formulas' truths before any is worked out.
+    // What is known of the formulas' truths before any is worked out. Bits, questions and claims come apart in the calls,
+    // as callers have them.
     fn unknown<'a>(
         &'a self,
         bits: &'a [bool],

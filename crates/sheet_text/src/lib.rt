@@ -11,7 +11,8 @@ use reader::read_records;
 use sheet::{Kind, Record};
 use std::alloc::{AllocError, Global};
 
-// Each number after a space.
+// Each number after a space. No `Display`, here and below, which this crate could give only to a type around the bytes
+// or around a record with its place.
 fn push_numbers(text: &mut String, body: &[u8]) -> Result<(), AllocError>
     ensures { OnOk result (string_bytes text.new ≡ string_bytes text.old ++ numbers_of body.now) }
 {
@@ -106,6 +107,7 @@ pub fn listing(heap: Global, bytes: &[u8]) -> Result<String, AllocError>
     let mut records = Vec::new(heap);
     let outcome = read_records(bytes, heap, &mut records);
     let records = records.as_slice();
+    // A refusal is printed, so nothing is passed on.
     match outcome {
         Ok(_) => ReadRecords { bytes, records }.whole(heap),
         Err(Failure::Fault(fault)) => ReadRecords { bytes, records }.faulty(heap, fault),

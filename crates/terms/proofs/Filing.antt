@@ -1,7 +1,6 @@
 -- Interning by nodes is interning by terms: in a bank, a node is found exactly where its term is.
-use Rattle.std.proofs.Common.{◌≡◌, ℕ, suc, ◌+◌, ◌<◌, ◌≤◌, min, ◌⊎◌, List, length, get_or, set, Ok, Err, Result, sym, refl, ap, ◌∙◌, subst, inl, inr, ⊎_elim, arith, length-set}
+use Rattle.std.proofs.Common.{◌≡◌, ℕ, suc, ◌+◌, ◌<◌, ◌≤◌, min, ◌⊎◌, List, length, get_or, set, Ok, Err, Result, sym, refl, ap, ◌∙◌, subst, inl, inr, ⊎_elim, arith, below_more, length-set}
 use Rattle.std.proofs.lemmas.List.{get_or-set_same, get_or-set_other}
-use Rattle.std.proofs.lemmas.Bool.{cases_lt}
 use Rattle.fault.specs.declared.TableFault.{TableFault}
 use Rattle.terms.specs.declared.Node.{Node}
 use Rattle.terms.specs.declared.Node.TheVariants.{Name, Constant, Unary, Binary, Ternary}
@@ -58,15 +57,12 @@ module _ (rs : List TermRecord) (n : ℕ) (node : Node) (b : Bank rs n) (fit : F
   same_term : (k : ℕ) → k < n → term_at (set rs n (record_of rs node)) k ≡ term_at rs k
   same_term = term_stays rs (set rs n (record_of rs node)) n b.ordered same_record
 
-  at_or_below : (k : ℕ) → k < n + 1 → (k < n) ⊎ (k ≡ n)
-  at_or_below k lt = ⊎_elim (λ h. inl h) (λ h. inr (omega arith)) (cases_lt k n)
-
   ordered_after : Ordered (set rs n (record_of rs node)) (n + 1)
   ordered_after =
       record {
         inside = rw length-set (omega arith);
-        fit = λ k lt. ⊎_elim (λ h. subst (λ r. Fit k r.node) (sym (same_record k h)) (b.ordered.fit k h))
-            (λ e. subst (λ j. Fit j (node_at (set rs n (record_of rs node)) j)) (sym e) (subst (λ r. Fit n r.node) (sym new_record) fit)) (at_or_below k lt);
+        fit = below_more (λ j. Fit j (node_at (set rs n (record_of rs node)) j)) n
+            (λ k h. subst (λ r. Fit k r.node) (sym (same_record k h)) (b.ordered.fit k h)) (subst (λ r. Fit n r.node) (sym new_record) fit);
       }
 
   new_term : term_at (set rs n (record_of rs node)) n ≡ term_of (term_at rs) node
@@ -84,10 +80,6 @@ module _ (rs : List TermRecord) (n : ℕ) (node : Node) (b : Bank rs n) (fit : F
   new_names =
       names_of_same (λ a. (get_or rs a no_record).names) (λ a. name_set (term_at rs a)) n node fit b.names ∙ sym (name_set-term_of (term_at rs) node)
 
-  -- a fact of each place, from the fact of the places before and of the new one
-  each : (P : ℕ → Type 0) → ((k : ℕ) → k < n → P k) → P n → (k : ℕ) → k < n + 1 → P k
-  each P old new k lt = ⊎_elim (λ h. old k h) (λ e. subst P (sym e) new) (at_or_below k lt)
-
   pub bank_after : n < 512 → Lacks rs n node → Bank (set rs n (record_of rs node)) (n + 1)
   bank_after few lacks =
       let rs' = set rs n (record_of rs node) in
@@ -95,13 +87,13 @@ module _ (rs : List TermRecord) (n : ℕ) (node : Node) (b : Bank rs n) (fit : F
       record {
         ordered = ordered_after;
         few = omega arith;
-        once = λ i j p q is. each (λ k. term_at rs' k ≡ term_at rs' j → k ≡ j)
-            (λ k h e. each (λ u. term_at rs' k ≡ term_at rs' u → k ≡ u) (λ u w e'. b.once k u h w (sym (same_term k h) ∙ (e' ∙ same_term u w))) (λ e'. absurd (fresh k h (sym (same_term k h) ∙ (e' ∙ new_term)))) j q e)
-            (λ e. each (λ u. term_at rs' n ≡ term_at rs' u → n ≡ u) (λ u w e'. absurd (fresh u w (sym (same_term u w) ∙ (sym e' ∙ new_term)))) (λ e'. refl) j q e) i p is;
-        heights = each (λ k. (get_or rs' k no_record).height ≡ height (term_at rs' k))
+        once = λ i j p q is. below_more (λ k. term_at rs' k ≡ term_at rs' j → k ≡ j) n
+            (λ k h e. below_more (λ u. term_at rs' k ≡ term_at rs' u → k ≡ u) n (λ u w e'. b.once k u h w (sym (same_term k h) ∙ (e' ∙ same_term u w))) (λ e'. absurd (fresh k h (sym (same_term k h) ∙ (e' ∙ new_term)))) j q e)
+            (λ e. below_more (λ u. term_at rs' n ≡ term_at rs' u → n ≡ u) n (λ u w e'. absurd (fresh u w (sym (same_term u w) ∙ (sym e' ∙ new_term)))) (λ e'. refl) j q e) i p is;
+        heights = below_more (λ k. (get_or rs' k no_record).height ≡ height (term_at rs' k)) n
             (λ k h. ap (λ r. r.height) (same_record k h) ∙ (b.heights k h ∙ ap height (sym (same_term k h))))
             (ap (λ r. r.height) new_record ∙ (new_height ∙ ap height (sym new_term)));
-        names = each (λ k. (get_or rs' k no_record).names ≡ name_set (term_at rs' k))
+        names = below_more (λ k. (get_or rs' k no_record).names ≡ name_set (term_at rs' k)) n
             (λ k h. ap (λ r. r.names) (same_record k h) ∙ (b.names k h ∙ ap name_set (sym (same_term k h))))
             (ap (λ r. r.names) new_record ∙ (new_names ∙ ap name_set (sym new_term)));
       }

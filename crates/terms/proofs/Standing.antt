@@ -3,15 +3,18 @@ use Rattle.std.proofs.Common.{◌≡◌, ℕ, zero, suc, ◌<◌, ◌≤◌, Lis
 use Rattle.terms.specs.declared.Node.{Node}
 use Rattle.terms.specs.declared.Node.TheVariants.{Name, Constant, Unary, Binary, Ternary}
 use Rattle.terms.specs.declared.TermRecord.{TermRecord}
-use Rattle.terms.specs.Terms.{Term, unary, height, name_set}
+use Rattle.terms.specs.Terms.{Term, unary, ternary, height, name_set}
 use Rattle.terms.specs.Bank.{Fit, node_at, no_record, term_of, unfolded, term_at, Ordered, height_of, names_of}
+
+pub ternary_same : (f : ℕ) {a b c x y z : Term} → a ≡ x → b ≡ y → c ≡ z → ternary f a b c ≡ ternary f x y z
+ternary_same f p q r = cc
 
 pub term_of-same : (at at' : ℕ → Term) (n : ℕ) (node : Node) → Fit n node → ((a : ℕ) → a < n → at a ≡ at' a) → term_of at node ≡ term_of at' node
 term_of-same at at' n (Name x) fit e = refl
 term_of-same at at' n (Constant f) fit e = refl
 term_of-same at at' n (Unary f a) fit e = ap (unary f) (e a fit)
 term_of-same at at' n (Binary f a b) fit e = let p = e a fit.0 in let q = e b fit.1 in cc
-term_of-same at at' n (Ternary f a b c) fit e = let p = e a fit.0 in let q = e b fit.1 in let r = e c fit.2 in cc
+term_of-same at at' n (Ternary f a b c) fit e = ternary_same f (e a fit.0) (e b fit.1) (e c fit.2)
 
 pub height-term_of : (at : ℕ → Term) (node : Node) → height (term_of at node) ≡ height_of (λ a. height (at a)) node
 height-term_of at (Name x) = refl

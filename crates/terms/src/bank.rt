@@ -46,6 +46,7 @@ impl Node {
 }
 
 /// The place of a node, searched from the first at which it can stand.
+// The count comes beside the bank, since what is promised of a search is said of both.
 fn find(bank: &[TermRecord], terms: usize, node: Node) -> Option<usize>
     requires inside { terms ≤ length bank.now }
     requires fit { Fit terms node }

@@ -1,25 +1,23 @@
-use Rattle.std.proofs.Common.{◌≡◌, ◌<◌, false, length, get_or, refl, ◌∙◌, arith, rules}
-use Rattle.std.proofs.lemmas.List.{get_or-set_other, length-set}
+use Rattle.std.proofs.Common.{ℕ, false, cond, nat_lt, length, get_or, ⊎_elim, ◌∙◌, sym, rules, arith}
+use Rattle.std.proofs.lemmas.Bool.{cond-true, cond-false, cases_lt, lt-ltb, le-ltb}
+use Rattle.std.proofs.lemmas.List.{get_or_past}
 use Rattle.terms.specs.declared.Condition.{Condition}
 use Rattle.closure.specs.Labels.{no_condition}
+use Rattle.sheet.proofs.Arrays.{made}
 use Rattle.candidates.specs.Cases.{with_answer}
-use Rattle.candidates.proofs.Listing.{set_more}
-use Rattle.candidates.proofs.Judging.{answered}
 use Rattle.candidates.proofs.safety.signed.Goals as goal
 
-pub loop-k-init : goal.loop-k-init
-loop-k-init c = (search rules, (λ j lt. absurd (omega arith)), λ j le. refl)
+pub returns-clause-front : goal.returns-clause-front
+returns-clause-front c k lt =
+    let at : ℕ → Condition = λ j. cond (nat_lt j (length c.args.answers.now)) (with_answer (get_or c.args.list j no_condition) (get_or c.args.answers.now j false)) (get_or c.args.list j no_condition) in
+    made _ _ at (λ j y q call. search rules) c.from_fn.result 22 c.from_fn.ensures.items k no_condition (omega arith)
+    ∙ cond-true (nat_lt k (length c.args.answers.now)) (with_answer (get_or c.args.list k no_condition) (get_or c.args.answers.now k false)) (get_or c.args.list k no_condition) (lt-ltb k (length c.args.answers.now) lt)
 
-pub loop-k-preserved : goal.loop-k-preserved
-loop-k-preserved c =
-    let k = c.loop-k.k in
-    let old = get_or c.loop-k.list k no_condition in
-    let x : Condition = record { left = old.left; right = old.right; sign = c.sign_of.result } in
-    let inside : k < length c.loop-k.list = omega (arith, c.loop-k.invariant.0, c.loop-k-test.true, c.requires) in (
-      length-set c.loop-k.list k x ∙ c.loop-k.invariant.0,
-      set_more (λ j y. y ≡ with_answer (get_or c.args.list j no_condition) (get_or c.args.answers.now j false)) c.loop-k.list k x no_condition inside c.loop-k.invariant.1 (answered old (get_or c.args.list k no_condition) c.sign_of.result (get_or c.args.answers.now k false) (c.loop-k.invariant.2 k (omega arith)) c.sign_of.ensures),
-      λ j le. get_or-set_other c.loop-k.list k j x no_condition (λ e. omega arith) ∙ c.loop-k.invariant.2 j (omega arith),
-    )
-
-pub returns : goal.returns
-returns c = record { front = λ k lt. c.loop-k.invariant.1 k (omega arith); back = λ k le. c.loop-k.invariant.2 k (omega (arith, c.loop-k.auto.k-end)) }
+pub returns-clause-back : goal.returns-clause-back
+returns-clause-back c k le =
+    let at : ℕ → Condition = λ j. cond (nat_lt j (length c.args.answers.now)) (with_answer (get_or c.args.list j no_condition) (get_or c.args.answers.now j false)) (get_or c.args.list j no_condition) in
+    ⊎_elim
+    (λ lt. made _ _ at (λ j y q call. search rules) c.from_fn.result 22 c.from_fn.ensures.items k no_condition lt
+    ∙ cond-false (nat_lt k (length c.args.answers.now)) (with_answer (get_or c.args.list k no_condition) (get_or c.args.answers.now k false)) (get_or c.args.list k no_condition) (le-ltb k (length c.args.answers.now) le))
+    (λ ge. get_or_past c.from_fn.result k no_condition (omega (arith, c.from_fn.ensures.items.long)) ∙ sym (get_or_past c.args.list k no_condition (search (rules, arith))))
+    (cases_lt k 22)

@@ -1,8 +1,9 @@
-use Rattle.folding.proofs.Narrowing.{narrowed_bound, stronger_bound}
+use Rattle.std.proofs.Common.{None, get_or, refl}
+use Rattle.folding.proofs.Narrowing.{narrowed_held, stronger_held}
 use Rattle.folding.proofs.pairing.bind.Goals as goal
 
-pub returns-in-None-clause-narrowed : goal.returns-in-None-clause-narrowed
-returns-in-None-clause-narrowed c = narrowed_bound c.args.to.now c.args.x c.args.y c.requires.inside c.in-None.is
+pub returns-clause-narrowed : goal.returns-clause-narrowed
+returns-clause-narrowed c = rw c.get_or_insert.ensures.value (narrowed_held c.args.to.now c.args.x c.args.y c.requires.inside (get_or c.args.to.now c.args.x None) refl)
 
-pub returns-in-None-clause-stronger : goal.returns-in-None-clause-stronger
-returns-in-None-clause-stronger c = stronger_bound c.args.to.now c.args.x c.args.y c.requires.inside c.in-None.is
+pub returns-clause-stronger : goal.returns-clause-stronger
+returns-clause-stronger c = rw c.get_or_insert.ensures.value (stronger_held c.args.to.now c.args.x c.args.y c.requires.inside (get_or c.args.to.now c.args.x None) refl)

@@ -4,9 +4,10 @@ use Rattle.sheet.specs.Memo.{before}
 use Rattle.sheet.specs.Stored.{term_in}
 use Rattle.terms.specs.declared.Node.TheVariants.{Name}
 use Rattle.terms.specs.Terms.{name, unary, binary}
+use Rattle.terms.proofs.Standing.{ternary_same}
 use Rattle.forms.specs.Candidate.{no_term, terms_over}
 use Rattle.candidates.specs.Working.{Placed}
-use Rattle.candidates.proofs.Walking.{placed_interned, placed_held, walked_start, walked_more, walked_placed, walked_break, over_none, over_past, over_here, over_reading, over_input, over_zero, over_one, over_two, over_three, has_unary, has_binary, has_ternary, ternary_same}
+use Rattle.candidates.proofs.Walking.{placed_interned, placed_held, walked_start, walked_more, walked_placed, walked_break, over_none, over_past, over_here, over_reading, over_input, over_zero, over_one, over_two, over_three, has_unary, has_binary, has_ternary}
 use Rattle.candidates.proofs.instantiating.Given.+place_below.Goals.{then-n-below-via-then-n-below, then-n-below-via-else-n-below+then-n-self}
 use Rattle.candidates.proofs.instantiating.Given.+place_below.Goals as goal
 

@@ -1,8 +1,9 @@
-use Rattle.std.proofs.Common.{◌≡◌, ℕ, ◌<◌, ◌≤◌, List, [], ◌∷◌, refl, sym, ◌∙◌, arith, rules}
+use Rattle.std.proofs.Common.{◌≡◌, ℕ, ◌<◌, ◌≤◌, List, [], ◌∷◌, refl, sym, ap, ◌∙◌, ap₂, arith, rules}
 use Rattle.terms.specs.declared.TermRecord.{TermRecord}
-use Rattle.terms.specs.Terms.{Term, unary, binary, ternary}
+use Rattle.terms.specs.Terms.{Term, unary, binary}
 use Rattle.terms.specs.Bank.{Extends, term_at}
 use Rattle.terms.proofs.Same.{same_true}
+use Rattle.terms.proofs.Standing.{ternary_same}
 use Rattle.banks.proofs.Gaining.{gained_held}
 use Rattle.folding.proofs.Changes.{spared, stopped_some, site, underway_none, underway_more, underway_at, underway_is, underway_broken, underway_settled}
 use Rattle.folding.proofs.rewriting.Rewriting.+rewrite.Goals as goal
@@ -31,15 +32,6 @@ more p n m x y = omega arith
 at_later : {rs rs' : List TermRecord} {n n' : ℕ} → Extends rs n rs' n' → {p : ℕ} → p < n → {t : Term} → term_at rs p ≡ t → term_at rs' p ≡ t
 at_later e {p} lt is = (e.stays p lt).1 ∙ is
 
-unary_same : (f : ℕ) {a d : Term} → a ≡ d → unary f a ≡ unary f d
-unary_same f x = cc
-
-binary_same : (f : ℕ) {a b d e : Term} → a ≡ d → b ≡ e → binary f a b ≡ binary f d e
-binary_same f x y = cc
-
-ternary_same : (f : ℕ) {a b c d e h : Term} → a ≡ d → b ≡ e → c ≡ h → ternary f a b c ≡ ternary f d e h
-ternary_same f x y z = cc
-
 pub returns-in_err-a-in-Unary-clause-adding : goal.returns-in_err-a-in-Unary-clause-adding
 returns-in_err-a-in-Unary-clause-adding t c =
     let s = c.args.self.now in
@@ -53,7 +45,7 @@ settle-requires-in-Unary-clause-became t c =
     let at = site s.suits s.is_bank c.requires.inside (sym c.in_default-stop.ensures) c.in-Unary.is in
     let w₀ = underway_none s.suits s.is_bank in
     let w₁ = underway_more s.suits w₀ at.fit c.rewrite.ensures.change c.in_ok-a-in-Unary.ensures.adding in
-    unary_same c.in-Unary.f (underway_at s.suits w₀ at.fit c.in_ok-a-in-Unary.ensures.adding) ∙ sym (underway_is s.suits w₁ c.requires.inside at)
+    ap (unary c.in-Unary.f) (underway_at s.suits w₀ at.fit c.in_ok-a-in-Unary.ensures.adding) ∙ sym (underway_is s.suits w₁ c.requires.inside at)
 
 pub returns-in_ok-a-in-Unary-clause-adding : goal.returns-in_ok-a-in-Unary-clause-adding
 returns-in_ok-a-in-Unary-clause-adding t c =
@@ -85,7 +77,7 @@ settle-requires-in-Binary-clause-became t c =
     let w₀ = underway_none s.suits s.is_bank in
     let w₁ = underway_more s.suits w₀ at.fit.0 c.rewrite-in-Binary.ensures.change c.in_ok-a-in-Binary.ensures.adding in
     let w₂ = underway_more s.suits w₁ at.fit.1 c.rewrite-in-Binary-2.ensures.change c.in_ok-b-in-Binary.ensures.adding in
-    binary_same c.in-Binary.f (at_later c.in_ok-b-in-Binary.ensures.adding.gained.extends c.in_ok-a-in-Binary.ensures.adding.inside (underway_at s.suits w₀ at.fit.0 c.in_ok-a-in-Binary.ensures.adding)) (underway_at s.suits w₁ at.fit.1 c.in_ok-b-in-Binary.ensures.adding) ∙ sym (underway_is s.suits w₂ c.requires.inside at)
+    ap₂ (binary c.in-Binary.f) (at_later c.in_ok-b-in-Binary.ensures.adding.gained.extends c.in_ok-a-in-Binary.ensures.adding.inside (underway_at s.suits w₀ at.fit.0 c.in_ok-a-in-Binary.ensures.adding)) (underway_at s.suits w₁ at.fit.1 c.in_ok-b-in-Binary.ensures.adding) ∙ sym (underway_is s.suits w₂ c.requires.inside at)
 
 pub returns-in_ok-b-in-Binary-clause-adding : goal.returns-in_ok-b-in-Binary-clause-adding
 returns-in_ok-b-in-Binary-clause-adding t c =
