@@ -39,8 +39,7 @@ fn is_spared(change: &Change, place: u16) -> bool
 }
 
 /// A change on its way through a lent bank, in memory of fixed size, since nothing is allocated. What a place became is
-/// remembered, so that each term is visited once, however
-/// often it is shared.
+/// remembered, so that each term is visited once, however often it is shared.
 #[derive(Drop)]
 pub(crate) struct Rewriting<'a> {
     pub(crate) bank: &'a mut [TermRecord],
