@@ -104,8 +104,8 @@ module _ (rs : List TermRecord) (n : ℕ) (node : Node) (b : Bank rs n) (fit : F
 pub interned : (rs rs' : List TermRecord) (n n' : ℕ) (node : Node) (r : Result ℕ TableFault) → Bank rs n → Fit n node → Filed rs n node rs' n' r → Interned rs n (term_of (term_at rs) node) rs' n' r
 interned rs rs' n n' node (Ok i) b fit filed =
     ⊎_elim
-    (λ f. subst (λ ys. (Bank ys n') × Stays n rs ys × (i < n') × (term_at ys i ≡ term_of (term_at rs) node) × (((i < n) × (n' ≡ n)) ⊎ ((i ≡ n) × (n' ≡ n + 1) × Absent rs n (term_of (term_at rs) node)))) (sym f.3)
-    (subst (Bank rs) (sym f.4) b, (λ k lt. (refl, refl)), omega (arith, f.1, f.4), term_at-ordered rs n b.ordered i f.1 ∙ ap (term_of (term_at rs)) f.2, inl (f.1, f.4)))
+    (λ f. subst (λ ys. (Bank ys n') × Stays n rs ys × (i < n') × (term_at ys i ≡ term_of (term_at rs) node) × (((i < n) × (n' ≡ n)) ⊎ ((i ≡ n) × (n' ≡ n + 1) × Absent rs n (term_of (term_at rs) node)))) (sym f.4)
+    (subst (Bank rs) (sym f.5) b, (λ k lt. (refl, refl)), omega (arith, f.1, f.5), term_at-ordered rs n b.ordered i f.1 ∙ ap (term_of (term_at rs)) f.2, inl (f.1, f.5)))
     (λ f. subst (λ ys. (Bank ys n') × Stays n rs ys × (i < n') × (term_at ys i ≡ term_of (term_at rs) node) × (((i < n) × (n' ≡ n)) ⊎ ((i ≡ n) × (n' ≡ n + 1) × Absent rs n (term_of (term_at rs) node)))) (sym f.3)
     (let less : n < length rs = omega (arith, f.1) in
     (subst (Bank (set rs n (record_of rs node))) (sym f.4) (bank_after rs n node b fit less (omega (arith, f.1)) (lacks_from_misses rs n node b f.2)), stays_after rs n node b fit less, omega (arith, f.0, f.4), ap (term_at (set rs n (record_of rs node))) f.0 ∙ new_term rs n node b fit less, inr (f.0, f.4, absent_from_lacks rs n node b fit (lacks_from_misses rs n node b f.2)))))

@@ -35,22 +35,17 @@ impl Node {
     {
         match self {
             Node::Name(x) => x < 32,
-            Node::Constant(_) => true,
-            Node::Unary(_, a) => (a as usize) < terms,
-            Node::Binary(_, a, b) => (a as usize) < terms && (b as usize) < terms,
-            Node::Ternary(_, a, b, c) => (a as usize) < terms
-                && (b as usize) < terms
-                && (c as usize) < terms,
+            _ => self.floor() <= terms,
         }
     }
 }
 
-/// The place of a node, searched from the first at which it can stand.
+/// The lowest place of a node, searched from the first at which it can stand.
 // The count comes beside the bank, since what is promised of a search is said of both.
 fn find(bank: &[TermRecord], terms: usize, node: Node) -> Option<usize>
     requires inside { terms ≤ length bank.now }
     requires fit { Fit terms node }
-    ensures { MatchOption result (Misses bank.now terms node) (λ i. (floor node ≤ i) × (i < terms) × (node_at bank.now i ≡ node)) }
+    ensures { MatchOption result (Misses bank.now terms node) (λ i. (floor node ≤ i) × (i < terms) × (node_at bank.now i ≡ node) × Misses bank.now i node) }
 {
     let floor = node.floor();
     let above = &bank[floor..terms];
