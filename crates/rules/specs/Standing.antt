@@ -1,0 +1,63 @@
+-- What the calls on a table have come to: the rows, the mark of each branch of each row, and the terms that the bank
+-- holds with their subterms. Assumes nothing.
+use Rattle.std.specs.Prelude.{ℕ, ◌^◌, Bool, true, false, List, [], ◌∷◌, length, replicate, sum, map, count_by, slice_get, slice_set, Some, None, Option}
+use Rattle.sheet.specs.System.{System}
+use Rattle.terms.specs.Terms.{Term}
+use Rattle.forms.specs.Rows.{Row, first_row}
+use Rattle.forms.specs.Candidate.{or_none}
+use Rattle.rules.specs.declared.Branch.{Branch}
+use Rattle.rules.specs.declared.Mark.{Mark}
+use Rattle.rules.specs.declared.Mark.TheVariants.{Waiting, Out, Struck, Merged, Kept}
+
+pub record Standing : Type 0 where
+  pub rows : List Row
+  pub marks : List (List Mark)
+  pub terms : List Term
+
+-- how many branches each row has
+abbrev pub branches : System → ℕ
+branches s = 2 ^ length s.questions
+
+abbrev pub all_waiting : System → List Mark
+all_waiting s = replicate (branches s) Waiting
+
+-- row 0, with each branch waiting; the bank holds its terms
+abbrev pub opening : System → Standing
+opening s = record { rows = first_row s ∷ []; marks = all_waiting s ∷ []; terms = (first_row s).vector }
+
+-- a table that was never opened, or whose last open was refused
+abbrev pub unopened : Standing
+unopened = record { rows = []; marks = []; terms = [] }
+
+-- the mark of a branch, where there is such a row and branch
+abbrev pub mark_of : Standing → Branch → Option Mark
+mark_of at b = or_none (slice_get at.marks b.row) (λ ms. slice_get ms b.number)
+
+abbrev pub marks_with : List (List Mark) → Branch → Mark → Option (List Mark) → List (List Mark)
+marks_with marks b m None = marks
+marks_with marks b m (Some ms) = slice_set marks b.row (slice_set ms b.number m)
+
+-- the same with one branch's mark changed
+abbrev pub marked : Standing → Branch → Mark → Standing
+marked at b m = record { rows = at.rows; marks = marks_with at.marks b m (slice_get at.marks b.row); terms = at.terms }
+
+abbrev pub is_waiting : Mark → Bool
+is_waiting Waiting = true
+is_waiting Out = false
+is_waiting Struck = false
+is_waiting Merged = false
+is_waiting Kept = false
+
+abbrev pub is_out : Mark → Bool
+is_out Waiting = false
+is_out Out = true
+is_out Struck = false
+is_out Merged = false
+is_out Kept = false
+
+-- how many branches of all rows are waiting, and are out
+abbrev pub waiting : Standing → ℕ
+waiting at = sum (map (count_by is_waiting) at.marks)
+
+abbrev pub out : Standing → ℕ
+out at = sum (map (count_by is_out) at.marks)

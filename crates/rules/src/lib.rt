@@ -1,0 +1,101 @@
+//! Calls on a check table: what the rules make of them, and the three promises about any list of calls.
+#![tactic(auto)]
+
+ghost use Rattle.rules.specs.Safety.{Covered, Settles, Keeping};
+ghost use Rattle.rules.specs.Laws.{Accounting, Alone, AnsweredPromises, Bears, OneOutcome, PlayedTurns};
+
+use fault::TableFault;
+/// What has become of a branch.
+#[derive(Clone, Copy, Debug, PartialEq, Eq)]
+pub enum Mark {
+    Waiting,
+    Out,
+    Struck,
+    Merged,
+    Kept,
+}
+
+/// A branch of a row, as a ticket names it.
+#[derive(Clone, Copy, Debug, PartialEq, Eq)]
+pub struct Branch {
+    pub row: u8,
+    pub number: u8,
+}
+
+/// A call on a table.
+#[derive(Clone, Copy, Debug, PartialEq, Eq)]
+pub enum Call {
+    Take(Branch),
+    GiveBack(Branch),
+    Strike(Branch),
+    Merge {
+        ticket: Branch,
+        target: u8,
+        height: u8,
+    },
+    Keep {
+        ticket: Branch,
+        height: u8,
+    },
+    Verdict,
+}
+
+/// What a call answers.
+#[derive(Clone, Copy, Debug, PartialEq, Eq)]
+pub enum Answer {
+    /// A ticket that names the branch.
+    Taken(Branch),
+    Done,
+    Joined(u16),
+    Holds,
+    Open { waiting: u32, out: u32 },
+    Refused(TableFault),
+}
+
+/// A call, and the place for its answer.
+#[derive(Clone, Copy, Debug, PartialEq, Eq)]
+pub struct Entry {
+    pub call: Call,
+    pub answer: Answer,
+}
+
+/// Accepted calls account for every branch of every row.
+pub fn accounting()
+    ensures { Accounting }
+{}
+
+/// What answered calls come to is what the rules give.
+pub fn played_turns()
+    ensures { PlayedTurns }
+{}
+
+/// The rules give a call at most one outcome.
+pub fn one_outcome()
+    ensures { OneOutcome }
+{}
+
+/// Calls come to one thing only.
+pub fn alone()
+    ensures { Alone }
+{}
+
+/// Where each call was answered as the rules say, the promises are kept.
+pub fn answered_promises()
+    ensures { AnsweredPromises }
+{}
+
+/// After any calls, the rules bear a call exactly when no fault refuses it.
+pub fn bears()
+    ensures { Bears }
+{}
+
+/// From the rules alone, a standing with no branch waiting or out shows the invariant true.
+pub fn safety_law()
+    ensures covered { Covered }
+    ensures settles { Settles }
+{}
+
+/// Where each call was answered as the rules say, all three promises are kept.
+pub fn keeping()
+    ensures { Keeping }
+{}
