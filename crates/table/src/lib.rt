@@ -1,0 +1,8 @@
+//! The check table, on which several people work by turns. A table lies in memory that it is lent for its life, and
+//! allocates nothing. `specs/Standing.antt` says which standing of the rules a table stands for; each public call goes
+//! from every standing that the table stood for, by the rules, to one that it stands for now.
+#![tactic(auto)]
+
+mod mark;
+mod offers;
+mod opening;
