@@ -51,10 +51,10 @@ played_turns s limit [] (a ∷ ans) from at h = absurd h
 played_turns s limit (c ∷ cs) [] from at h = absurd h
 
 -- the marks of all rows that pass a test
-abbrev counted : (Mark → Bool) → List (List Mark) → ℕ
+abbrev pub counted : (Mark → Bool) → List (List Mark) → ℕ
 counted p marks = sum (map (count_by p) marks)
 
-abbrev one : Bool → ℕ
+abbrev pub one : Bool → ℕ
 one b = cond b 1 0
 
 -- one mark is changed
@@ -85,7 +85,7 @@ added p marks n =
     omega arith
 
 -- a call that was accepted, of a kind
-abbrev of : (Call → Bool) → Call → Answer → ℕ
+abbrev pub of : (Call → Bool) → Call → Answer → ℕ
 of p c a = one (p c && is_accepted a)
 
 pub counts_on : (p : Call → Bool) (c : Call) (a : Answer) (cs : List Call) (ans : List Answer) → accepted p (c ∷ cs) (a ∷ ans) ≡ of p c a + accepted p cs ans
@@ -122,7 +122,7 @@ row_added s at b form seen is n add =
     let r = ap (λ x. x * branches s) (length-append at.rows (form ∷ [])) in
     omega arith
 
-counted_one : (a : Answer) → is_accepted a ≡ true → one (is_accepted a) ≡ 1
+pub counted_one : (a : Answer) → is_accepted a ≡ true → one (is_accepted a) ≡ 1
 counted_one a ok = ap one ok
 
 step_on : (s : System) (limit : ℕ) (at : Standing) (c : Call) (a : Answer) (after : Standing) → WasAccepted s limit at c a after → Step s at c a after
@@ -144,7 +144,7 @@ step_on s limit at (Keep b height) a after h =
 step_on s limit at Verdict a after h =
     subst (λ z. Step s at Verdict a z) (sym h.3) (record { sums = λ n add. omega arith; rows = omega arith })
 
-none_of : (x : Bool) → one (x && false) ≡ 0
+pub none_of : (x : Bool) → one (x && false) ≡ 0
 none_of true = refl
 none_of false = refl
 

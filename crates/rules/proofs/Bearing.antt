@@ -32,7 +32,7 @@ use Rattle.rules.proofs.Rooms.{all_append, room, built}
 use Rattle.rules.proofs.Settling.{settled}
 
 -- each list of marks has its row
-abbrev Paired : Standing → Type 0
+abbrev pub Paired : Standing → Type 0
 Paired at = length at.marks ≡ length at.rows
 
 marks_long : (marks : List (List Mark)) (b : Branch) (m : Mark) (o : Option (List Mark)) → length (marks_with marks b m o) ≡ length marks
@@ -54,7 +54,7 @@ paired_makes s limit at (Keep b h) after p m =
     subst Paired (sym m.3) (omega arith)
 paired_makes s limit at Verdict after p m = subst Paired (sym m) p
 
-paired_turn : (s : System) (limit : ℕ) (at : Standing) (call : Call) (after : Standing) → Paired at → Turn s limit at call after → Paired after
+pub paired_turn : (s : System) (limit : ℕ) (at : Standing) (call : Call) (after : Standing) → Paired at → Turn s limit at call after → Paired after
 paired_turn s limit at call after p (inl t) = paired_makes s limit at call after p t.1
 paired_turn s limit at call after p (inr t) = subst Paired (sym t.1) p
 

@@ -5,7 +5,7 @@ use Rattle.sheet.specs.System.{System}
 use Rattle.rules.specs.declared.Answer.{Answer}
 use Rattle.rules.specs.declared.Answer.TheVariants.{Holds}
 use Rattle.rules.specs.declared.Call.{Call}
-use Rattle.rules.specs.Standing.{Standing, branches, waiting, out, opening}
+use Rattle.rules.specs.Standing.{Standing, branches, waiting, out, counts_of, opening}
 use Rattle.rules.specs.Calls.{Borne, RefusedBy, Turns, ComesTo}
 use Rattle.rules.specs.Promises.{AlwaysTrue, Promises, Answered, accepted, is_keep, is_merge, is_strike}
 
@@ -22,6 +22,15 @@ pub record Accounts (s : System) (calls : List Call) (answers : List Answer) (at
 
 abbrev pub Accounting : Type 0
 Accounting = (s : System) (limit : ℕ) (calls : List Call) (answers : List Answer) (at : Standing) → Played s limit (opening s) calls answers at → Accounts s calls answers at
+
+-- kept, merged and struck count accepted calls; they are the marks of that name
+pub record Marked (calls : List Call) (answers : List Answer) (at : Standing) : Type 0 where
+  pub kept : (counts_of at).kept ≡ accepted is_keep calls answers
+  pub merged : (counts_of at).merged ≡ accepted is_merge calls answers
+  pub struck : (counts_of at).struck ≡ accepted is_strike calls answers
+
+abbrev pub Counting : Type 0
+Counting = (s : System) (limit : ℕ) (calls : List Call) (answers : List Answer) (at : Standing) → Played s limit (opening s) calls answers at → Marked calls answers at
 
 -- what answered calls come to is what the rules give
 abbrev pub PlayedTurns : Type 0

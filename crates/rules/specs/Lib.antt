@@ -4,3 +4,4 @@ pub mod Calls
 pub mod Promises
 pub mod Laws
 pub mod Safety
+pub mod Working

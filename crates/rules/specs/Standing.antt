@@ -6,6 +6,7 @@ use Rattle.terms.specs.Terms.{Term}
 use Rattle.forms.specs.Rows.{Row, first_row}
 use Rattle.forms.specs.Candidate.{or_none}
 use Rattle.rules.specs.declared.Branch.{Branch}
+use Rattle.rules.specs.declared.Counts.{Counts}
 use Rattle.rules.specs.declared.Mark.{Mark}
 use Rattle.rules.specs.declared.Mark.TheVariants.{Waiting, Out, Struck, Merged, Kept}
 
@@ -61,3 +62,36 @@ waiting at = sum (map (count_by is_waiting) at.marks)
 
 abbrev pub out : Standing → ℕ
 out at = sum (map (count_by is_out) at.marks)
+
+abbrev pub is_struck : Mark → Bool
+is_struck Waiting = false
+is_struck Out = false
+is_struck Struck = true
+is_struck Merged = false
+is_struck Kept = false
+
+abbrev pub is_merged : Mark → Bool
+is_merged Waiting = false
+is_merged Out = false
+is_merged Struck = false
+is_merged Merged = true
+is_merged Kept = false
+
+abbrev pub is_kept : Mark → Bool
+is_kept Waiting = false
+is_kept Out = false
+is_kept Struck = false
+is_kept Merged = false
+is_kept Kept = true
+
+-- how many rows there are, and how many branches of all rows have each mark
+abbrev pub counts_of : Standing → Counts
+counts_of at =
+    record {
+      rows = length at.rows;
+      kept = sum (map (count_by is_kept) at.marks);
+      merged = sum (map (count_by is_merged) at.marks);
+      struck = sum (map (count_by is_struck) at.marks);
+      waiting = waiting at;
+      out = out at;
+    }

@@ -2,7 +2,8 @@
 #![tactic(auto)]
 
 ghost use Rattle.rules.specs.Safety.{Covered, Settles, Keeping};
-ghost use Rattle.rules.specs.Laws.{Accounting, Alone, AnsweredPromises, Bears, OneOutcome, PlayedTurns};
+ghost use Rattle.rules.specs.Laws.{Accounting, Counting, Alone, AnsweredPromises, Bears, OneOutcome, PlayedTurns};
+ghost use Rattle.rules.specs.Working.{WorkPlayed, OneWork};
 
 use fault::TableFault;
 /// What has become of a branch.
@@ -52,6 +53,30 @@ pub enum Answer {
     Refused(TableFault),
 }
 
+/// How many rows a table has, and how many of its branches have each mark.
+#[derive(Clone, Copy, Debug, PartialEq, Eq)]
+pub struct Counts {
+    pub rows: usize,
+    pub kept: usize,
+    pub merged: usize,
+    pub struck: usize,
+    pub waiting: usize,
+    pub out: usize,
+}
+
+/// What working a table through comes to.
+#[derive(Clone, Copy, Debug, PartialEq, Eq)]
+pub enum Outcome {
+    /// No branch is waiting or out.
+    Holds,
+    /// So many branches are, each of them out for somebody else.
+    Open { waiting: usize, out: usize },
+    /// The form of this branch is not safe.
+    Unknown(Branch),
+    /// Names, terms or rows do not suffice for this branch.
+    Full(Branch),
+}
+
 /// A call, and the place for its answer.
 #[derive(Clone, Copy, Debug, PartialEq, Eq)]
 pub struct Entry {
@@ -98,4 +123,19 @@ pub fn safety_law()
 /// Where each call was answered as the rules say, all three promises are kept.
 pub fn keeping()
     ensures { Keeping }
+{}
+
+/// The work on a table makes calls that are answered by the rules.
+pub fn work_played()
+    ensures { WorkPlayed }
+{}
+
+/// Working a newly opened table through makes one list of calls, and comes to one outcome.
+pub fn one_work()
+    ensures { OneWork }
+{}
+
+/// Of the accepted calls, as many keeps, merges and strikes as there are marks of their name.
+pub fn counting()
+    ensures { Counting }
 {}
