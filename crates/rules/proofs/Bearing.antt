@@ -35,7 +35,7 @@ use Rattle.rules.proofs.Settling.{settled}
 abbrev pub Paired : Standing → Type 0
 Paired at = length at.marks ≡ length at.rows
 
-marks_long : (marks : List (List Mark)) (b : Branch) (m : Mark) (o : Option (List Mark)) → length (marks_with marks b m o) ≡ length marks
+pub marks_long : (marks : List (List Mark)) (b : Branch) (m : Mark) (o : Option (List Mark)) → length (marks_with marks b m o) ≡ length marks
 marks_long marks b m None = refl
 marks_long marks b m (Some ms) = length-set marks b.row (set ms b.number m)
 

@@ -266,10 +266,10 @@ module _ (s : System) (limit : ℕ) where
   ends_once b Satisfiable one other e e' = absurd e
   ends_once b NoRenaming one other e e' = absurd e
 
-  paired_answered : (at : Standing) (c : Call) (a : Answer) (after : Standing) → Paired at → Answered s limit at c a after → Paired after
+  pub paired_answered : (at : Standing) (c : Call) (a : Answer) (after : Standing) → Paired at → Answered s limit at c a after → Paired after
   paired_answered at c a after p w = paired_turn s limit at c after p (turn s limit at c a after w)
 
-  paired_offered : {at after : Standing} {offs made : List Call} {given : List Answer} {end : Option TableFault} → Paired at → Offered s limit at offs made given end after → Paired after
+  pub paired_offered : {at after : Standing} {offs made : List Call} {given : List Answer} {end : Option TableFault} → Paired at → Offered s limit at offs made given end after → Paired after
   paired_offered {at} p (accepted offer later answer after answered ok) = paired_answered at offer answer after p answered
   paired_offered {at} p (refused offer later calls answers fault end after answered rest) = paired_offered p rest
   paired_offered {at} p (last offer fault answered) = p

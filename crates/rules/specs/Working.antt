@@ -83,3 +83,7 @@ pub record SameWork (calls calls' : List Call) (outcome outcome' : Outcome) (aft
 
 abbrev pub OneWork : Type 0
 OneWork = (s : System) (limit : ℕ) (calls calls' : List Call) (answers answers' : List Answer) (outcome outcome' : Outcome) (after after' : Standing) → WorkedThrough s limit (opening s) calls answers outcome after → WorkedThrough s limit (opening s) calls' answers' outcome' after' → SameWork calls calls' outcome outcome' after after'
+
+-- and it never ends open: no branch is left waiting or out
+abbrev pub WorkSettles : Type 0
+WorkSettles = (s : System) (limit : ℕ) (calls : List Call) (answers : List Answer) (outcome : Outcome) (after : Standing) → WorkedThrough s limit (opening s) calls answers outcome after → (w o : ℕ) → outcome ≢ Outcome.Open w o

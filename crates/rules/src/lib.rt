@@ -3,7 +3,7 @@
 
 ghost use Rattle.rules.specs.Safety.{Covered, Settles, Keeping};
 ghost use Rattle.rules.specs.Laws.{Accounting, Counting, Alone, AnsweredPromises, Bears, OneOutcome, PlayedTurns};
-ghost use Rattle.rules.specs.Working.{WorkPlayed, OneWork};
+ghost use Rattle.rules.specs.Working.{WorkPlayed, OneWork, WorkSettles};
 
 use fault::TableFault;
 /// What has become of a branch.
@@ -138,4 +138,9 @@ pub fn one_work()
 /// Of the accepted calls, as many keeps, merges and strikes as there are marks of their name.
 pub fn counting()
     ensures { Counting }
+{}
+
+/// Working a newly opened table through never ends with a branch waiting or out.
+pub fn work_settles()
+    ensures { WorkSettles }
 {}
