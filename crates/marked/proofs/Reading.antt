@@ -1,0 +1,60 @@
+-- The bytes of the three sheets are their records.
+use Rattle.std.proofs.Common.{◌≡◌, ℕ, Bool, true, false, ◌&&◌, List, [], ◌∷◌, ◌++◌, Some, None, refl}
+use Rattle.sheet.specs.declared.syntax.Args.{Args}
+use Rattle.sheet.specs.declared.syntax.Choice.{Choice}
+use Rattle.sheet.specs.declared.syntax.Formula.{Formula}
+use Rattle.sheet.specs.declared.syntax.Record.{Record}
+use Rattle.sheet.specs.declared.syntax.Start.{Start}
+use Rattle.sheet.specs.declared.syntax.Term.{Term}
+use Rattle.sheet.specs.Format.{kind_of}
+use Rattle.sheet.specs.Rules.{room, obeys, fresh}
+use Rattle.sheet.specs.System.{System, nothing, add}
+use Rattle.reader.specs.Law.{ReadAs}
+use Rattle.reader.specs.Outcome.{AllAllowed, Accepted}
+use Rattle.reader.proofs.Exact.{accepted_read}
+use Rattle.marked.specs.Sheets.{hopper_bytes, low_bytes, still_bytes, hopper, low, still}
+
+-- whether records are allowed, as a test
+abbrev passes : System → List Record → Bool
+passes s [] = true
+passes s (x ∷ xs) = (room s (kind_of x) && (obeys s x && fresh s x)) && passes (add s x) xs
+
+both_of : (a b : Bool) → (a && b) ≡ true → (a ≡ true) × (b ≡ true)
+both_of true b h = (refl, h)
+both_of false b h = cc
+
+allowed : (s : System) (xs : List Record) → passes s xs ≡ true → AllAllowed s xs
+allowed s [] h = tt
+allowed s (x ∷ xs) h =
+    let (now, later) = both_of _ _ h in
+    let (r, rest) = both_of _ _ now in
+    let (o, f) = both_of _ _ rest in
+    (record { room = r; obeys = o; fresh = f }, allowed (add s x) xs later)
+
+-- the records before the last few
+abbrev front : List Record
+front =
+    Record.Symbol 0 ∷ Record.Symbol 1 ∷ Record.Bit false ∷ Record.Reading (Start.Name 0) ∷ Record.Reading (Start.Name 1) ∷ Record.Input
+    ∷ Record.Term (Term.Reading 0) ∷ Record.Term (Term.Reading 1) ∷ Record.Term (Term.Input 0) ∷ Record.Term (Term.Apply 0 Args.Zero)
+    ∷ Record.Term (Term.Apply 1 (Args.One 0)) ∷ Record.Question (record { left = 2; right = 3 }) ∷ Record.Claim (record { left = 1; right = 4 })
+    ∷ Record.Formula (Formula.Bit 0) ∷ Record.Formula (Formula.Question 0) ∷ Record.Formula (Formula.Or 0 1)
+    ∷ Record.Formula (Formula.Not 0) ∷ Record.Formula (Formula.Claim 0) ∷ Record.Formula (Formula.Or 3 4)
+    ∷ Record.Choice (Choice.Term 4) ∷ Record.Choice (Choice.Term 1) ∷ Record.Choice (Choice.If 1 0 1) ∷ Record.NextBit 0 2 ∷ []
+
+abbrev hopper_records : List Record
+hopper_records = front ++ (Record.NextReading 1 2 ∷ Record.Invariant 5 ∷ Record.Bound 1 ∷ [])
+
+abbrev low_records : List Record
+low_records = front ++ (Record.NextReading 1 2 ∷ Record.Invariant 5 ∷ Record.Bound 0 ∷ [])
+
+abbrev still_records : List Record
+still_records = front ++ (Record.Invariant 5 ∷ Record.Bound 1 ∷ [])
+
+pub hopper_read : ReadAs hopper_bytes hopper
+hopper_read = accepted_read hopper_bytes hopper_records hopper (record { is = refl; allowed = allowed nothing hopper_records refl; system = refl; whole = refl })
+
+pub low_read : ReadAs low_bytes low
+low_read = accepted_read low_bytes low_records low (record { is = refl; allowed = allowed nothing low_records refl; system = refl; whole = refl })
+
+pub still_read : ReadAs still_bytes still
+still_read = accepted_read still_bytes still_records still (record { is = refl; allowed = allowed nothing still_records refl; system = refl; whole = refl })
