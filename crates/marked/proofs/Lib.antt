@@ -1,1 +1,5 @@
 pub mod Reading
+pub mod Steps
+pub mod Facts
+pub mod Holding
+pub mod Ending

@@ -19,7 +19,7 @@ abbrev passes : System → List Record → Bool
 passes s [] = true
 passes s (x ∷ xs) = (room s (kind_of x) && (obeys s x && fresh s x)) && passes (add s x) xs
 
-both_of : (a b : Bool) → (a && b) ≡ true → (a ≡ true) × (b ≡ true)
+pub both_of : (a b : Bool) → (a && b) ≡ true → (a ≡ true) × (b ≡ true)
 both_of true b h = (refl, h)
 both_of false b h = cc
 

@@ -1,2 +1,3 @@
 pub mod Sheets
+pub mod Working
 pub mod Cases
