@@ -3,3 +3,4 @@ pub mod Steps
 pub mod Facts
 pub mod Holding
 pub mod Ending
+pub mod Small

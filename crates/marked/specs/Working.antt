@@ -32,7 +32,7 @@ calls_of work = map call_of work
 abbrev pub answers_of : List Entry → List Answer
 answers_of work = map answer_of work
 
-abbrev entry : Call → Answer → Entry
+abbrev pub entry : Call → Answer → Entry
 entry call answer = record { call = call; answer = answer }
 
 -- Branch 0 of row 0 goes back to row 0; branch 1 is kept as row 1; both branches of row 1 go back to row 1.
