@@ -1,5 +1,5 @@
 -- What the rows of the three sheets are like: which conditions are possible, which form an older row takes, and what is safe.
-use Rattle.std.proofs.Common.{◌≡◌, ℕ, zero, suc, ◌<◌, min, true, false, List, [], ◌∷◌, ◌++◌, Option, refl, arith}
+use Rattle.std.proofs.Common.{◌≡◌, ℕ, zero, suc, ◌<◌, min, true, false, [], ◌∷◌, ◌++◌, Option, refl, arith}
 use Rattle.sheet.specs.Lawful.{Lawful}
 use Rattle.sheet.specs.Runs.{Configuration}
 use Rattle.terms.specs.declared.Sign.TheVariants.{Equal, Different}
@@ -9,7 +9,7 @@ use Rattle.forms.specs.Matching.{Takes}
 use Rattle.forms.specs.Safety.{Safe, Unsafe, claim_conditions, invariant_in}
 use Rattle.forms.proofs.Deciding.{safety_by_cases}
 use Rattle.marked.specs.Sheets.{sheet_with, hopper}
-use Rattle.marked.specs.Working.{row_zero, row_one}
+use Rattle.marked.specs.Works.{row_zero, row_one}
 use Rattle.marked.proofs.Reading.{hopper_read}
 
 -- every symbol means 0; every name has the value 0, or each its own up to 1

@@ -1,5 +1,5 @@
 -- The bytes of the three sheets are their records.
-use Rattle.std.proofs.Common.{◌≡◌, ℕ, Bool, true, false, ◌&&◌, List, [], ◌∷◌, ◌++◌, Some, None, refl}
+use Rattle.std.proofs.Common.{◌≡◌, Bool, true, false, ◌&&◌, List, [], ◌∷◌, ◌++◌, refl}
 use Rattle.sheet.specs.declared.syntax.Args.{Args}
 use Rattle.sheet.specs.declared.syntax.Choice.{Choice}
 use Rattle.sheet.specs.declared.syntax.Formula.{Formula}
@@ -10,9 +10,9 @@ use Rattle.sheet.specs.Format.{kind_of}
 use Rattle.sheet.specs.Rules.{room, obeys, fresh}
 use Rattle.sheet.specs.System.{System, nothing, add}
 use Rattle.reader.specs.Law.{ReadAs}
-use Rattle.reader.specs.Outcome.{AllAllowed, Accepted}
+use Rattle.reader.specs.Outcome.{AllAllowed}
 use Rattle.reader.proofs.Exact.{accepted_read}
-use Rattle.marked.specs.Sheets.{hopper_bytes, low_bytes, still_bytes, hopper, low, still}
+use Rattle.marked.specs.Sheets.{hopper_bytes, bound_0_bytes, without_m_bytes, hopper, hopper_bound_0, hopper_without_m}
 
 -- whether records are allowed, as a test
 abbrev passes : System → List Record → Bool
@@ -44,17 +44,17 @@ front =
 abbrev hopper_records : List Record
 hopper_records = front ++ (Record.NextReading 1 2 ∷ Record.Invariant 5 ∷ Record.Bound 1 ∷ [])
 
-abbrev low_records : List Record
-low_records = front ++ (Record.NextReading 1 2 ∷ Record.Invariant 5 ∷ Record.Bound 0 ∷ [])
+abbrev bound_0_records : List Record
+bound_0_records = front ++ (Record.NextReading 1 2 ∷ Record.Invariant 5 ∷ Record.Bound 0 ∷ [])
 
-abbrev still_records : List Record
-still_records = front ++ (Record.Invariant 5 ∷ Record.Bound 1 ∷ [])
+abbrev without_m_records : List Record
+without_m_records = front ++ (Record.Invariant 5 ∷ Record.Bound 1 ∷ [])
 
 pub hopper_read : ReadAs hopper_bytes hopper
 hopper_read = accepted_read hopper_bytes hopper_records hopper (record { is = refl; allowed = allowed nothing hopper_records refl; system = refl; whole = refl })
 
-pub low_read : ReadAs low_bytes low
-low_read = accepted_read low_bytes low_records low (record { is = refl; allowed = allowed nothing low_records refl; system = refl; whole = refl })
+pub bound_0_read : ReadAs bound_0_bytes hopper_bound_0
+bound_0_read = accepted_read bound_0_bytes bound_0_records hopper_bound_0 (record { is = refl; allowed = allowed nothing bound_0_records refl; system = refl; whole = refl })
 
-pub still_read : ReadAs still_bytes still
-still_read = accepted_read still_bytes still_records still (record { is = refl; allowed = allowed nothing still_records refl; system = refl; whole = refl })
+pub without_m_read : ReadAs without_m_bytes hopper_without_m
+without_m_read = accepted_read without_m_bytes without_m_records hopper_without_m (record { is = refl; allowed = allowed nothing without_m_records refl; system = refl; whole = refl })

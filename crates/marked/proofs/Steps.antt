@@ -1,19 +1,24 @@
 -- How a call is shown to be borne or refused by the rules, from what it looks at.
-use Rattle.std.proofs.Common.{◌≡◌, ℕ, zero, suc, ◌<◌, ◌≤◌, Bool, true, false, ◌&&◌, ◌||◌, List, [], ◌∷◌, ◌++◌, length, slice_get, Some, None, refl, ◌⊎◌, inl, inr, arith}
-use Rattle.std.specs.List.{ContainsAt as Has, AllByRecursion as All}
-use Rattle.fault.specs.declared.TableFault.TheVariants.{Satisfiable, NoRenaming, UnsafeForm}
+use Rattle.std.proofs.Common.{◌≡◌, ℕ, suc, Bool, true, false, ◌&&◌, ◌||◌, List, [], ◌∷◌, ◌++◌, slice_get, Some, None, refl, ◌⊎◌, inl, inr, arith}
+use Rattle.std.specs.List.{ContainsAt as Has}
+use Rattle.fault.specs.declared.TableFault.TheVariants.{Satisfiable, NoRenaming}
 use Rattle.sheet.specs.System.{System}
 use Rattle.terms.specs.Terms.{Term, name, constant, unary, binary, ternary, same, Sat}
 use Rattle.terms.proofs.Same.{same_true}
 use Rattle.banks.specs.Room.{Throughout, HasAll, Roomy}
-use Rattle.forms.specs.Rows.{Row}
+use Rattle.forms.specs.Rows.{Row, first_row}
 use Rattle.forms.specs.Candidate.{candidate}
 use Rattle.forms.specs.Form.{first_higher, trimmed}
-use Rattle.forms.specs.Counted.{terms_in, sides_of, made, low, claim_terms, renamed_sides}
+use Rattle.forms.specs.Counted.{terms_in, sides_of, made, low}
 use Rattle.forms.specs.Matching.{Takes}
-use Rattle.forms.specs.Safety.{Safe, Unsafe}
+use Rattle.forms.specs.Safety.{Safe}
 use Rattle.rules.specs.declared.Branch.{Branch}
-use Rattle.rules.specs.Standing.{Standing}
+use Rattle.rules.specs.declared.Entry.{Entry}
+use Rattle.rules.specs.declared.Outcome.{Outcome}
+use Rattle.rules.specs.Standing.{Standing, opening}
+use Rattle.rules.specs.Working.{WorkedThrough}
+use Rattle.rules.proofs.Worked.{work_played, one_work}
+use Rattle.marked.specs.Works.{calls_of, answers_of, Works}
 use Rattle.marked.proofs.Reading.{both_of}
 use Rattle.rules.specs.Rules.{IsOut, IsWithin, Builds, Merges, StrikeRefused, MergeRefused}
 
@@ -82,3 +87,13 @@ merges s at b target h form seen older l is_row bare fits t = record { older = o
 
 pub apart : (s : System) (at : Standing) (b : Branch) (target h : ℕ) (form : Row) (seen : List Term) (older : Row) → Looks s at b h form seen → slice_get at.rows target ≡ Some older → older.conditions ≡ [] → holds_all everything (seen ++ []) ≡ true → (Takes older form → ⊥) → MergeRefused s at b target h NoRenaming
 apart s at b target h form seen older l is_row bare fits not = (older, (l.out, is_row, l.within), (form, seen, l.built, λ to f. rw bare (roomy _ fits), not))
+
+-- Work comes to one thing.
+pub works : (s : System) (work : List Entry) (outcome : Outcome) (at : Standing) → Safe s (first_row s) → WorkedThrough s 64 (opening s) (calls_of work) (answers_of work) outcome at → Works s work outcome at
+works s work outcome at opens worked =
+    record {
+      opens = opens;
+      worked = worked;
+      played = work_played s 64 (opening s) at _ _ outcome worked;
+      only = λ calls answers end after other. one_work s 64 calls (calls_of work) answers (answers_of work) end outcome after at other worked;
+    }

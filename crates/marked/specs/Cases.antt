@@ -10,19 +10,24 @@ use Rattle.reader.specs.Law.{ReadAs}
 use Rattle.sheet.specs.Runs.{FirstBreak}
 use Rattle.terms.specs.declared.Sign.TheVariants.{Equal, Different}
 use Rattle.terms.specs.Terms.{name, unary, binary, height, Literal, Sat}
-use Rattle.marked.specs.Sheets.{hopper_bytes, low_bytes, still_bytes, hopper, low, still}
-use Rattle.marked.specs.Working.{HopperHolds, Unknown}
+use Rattle.marked.specs.Sheets.{hopper_bytes, bound_0_bytes, without_m_bytes, hopper, hopper_bound_0, hopper_without_m}
+use Rattle.marked.specs.Works.{Holding, Unknown}
 
 -- the starts 5, 7, then zeros
 abbrev pub starts : List ℕ
 starts = 5 ∷ 7 ∷ 0 ∷ 0 ∷ 0 ∷ 0 ∷ 0 ∷ 0 ∷ []
 
--- On the sheet without M, one step with the input 0, over the listed model of no entries: with the default 0 configuration 1 is
--- the first to break the invariant, with 7 none is.
+-- what the bench answers to one step of the sheet without M with the input 0, over the listed model of no entries
+abbrev pub StepAnswers : ℕ → Option ℕ → Type 0
+StepAnswers default answer = FirstBreak (listed default []) hopper_without_m starts (0 ∷ []) 1 answer
+
+-- With the default 0 configuration 1 is the first to break the invariant, and with 7 none is; nothing else is answered.
 pub record BenchCases : Type 0 where
-  pub accepted : Accepted still starts (0 ∷ []) 1
-  pub breaks : FirstBreak (listed 0 []) still starts (0 ∷ []) 1 (Some 1)
-  pub none : FirstBreak (listed 7 []) still starts (0 ∷ []) 1 None
+  pub accepted : Accepted hopper_without_m starts (0 ∷ []) 1
+  pub breaks : StepAnswers 0 (Some 1)
+  pub breaks_only : (answer : Option ℕ) → StepAnswers 0 answer → answer ≡ Some 1
+  pub none : StepAnswers 7 None
+  pub none_only : (answer : Option ℕ) → StepAnswers 7 answer → answer ≡ None
 
 -- g(g(x1,f(x2)),f(x1)) is 3 high; its form at height 1 is g(x2,x0), and it has no other there
 pub record CutCase : Type 0 where
@@ -57,13 +62,13 @@ pub record MarkedCases : Type 0 where
   -- the three sheets are what their bytes describe
   pub long : length hopper_bytes ≡ 99
   pub hopper_read : ReadAs hopper_bytes hopper
-  pub low_read : ReadAs low_bytes low
-  pub still_read : ReadAs still_bytes still
+  pub bound_0_read : ReadAs bound_0_bytes hopper_bound_0
+  pub without_m_read : ReadAs without_m_bytes hopper_without_m
   -- worked through, the sheet holds with 2 rows, 1 kept, 3 merged and none struck
-  pub holds : HopperHolds hopper
+  pub holds : Holding hopper
   -- with the height bound 0, and without M, it is unknown at row 0, branch 1
-  pub low_unknown : Unknown low 0
-  pub still_unknown : Unknown still 1
+  pub bound_0_unknown : Unknown hopper_bound_0 0
+  pub without_m_unknown : Unknown hopper_without_m 1
   -- runs, a cut, conditions and merges
   pub runs : BenchCases
   pub cuts : CutCase

@@ -1,3 +1,3 @@
 pub mod Sheets
-pub mod Working
+pub mod Works
 pub mod Cases

@@ -1,12 +1,8 @@
 -- The sheet for one hopper, and the two that differ from it in one record: their bytes, and what they describe. Assumes nothing.
 use Rattle.std.specs.Prelude.{ℕ, false, List, [], ◌∷◌, ◌++◌, Some, None, Option}
 use Rattle.sheet.specs.declared.syntax.Args.{Args}
-use Rattle.sheet.specs.declared.syntax.Bit.{Bit}
 use Rattle.sheet.specs.declared.syntax.Choice.{Choice}
-use Rattle.sheet.specs.declared.syntax.Equation.{Equation}
 use Rattle.sheet.specs.declared.syntax.Formula.{Formula}
-use Rattle.sheet.specs.declared.syntax.Reading.{Reading}
-use Rattle.sheet.specs.declared.syntax.Record.{Record}
 use Rattle.sheet.specs.declared.syntax.Start.{Start}
 use Rattle.sheet.specs.declared.syntax.Term.{Term}
 use Rattle.sheet.specs.System.{System}
@@ -37,12 +33,12 @@ abbrev pub hopper_bytes : List ℕ
 hopper_bytes = front_bytes ++ (77 ∷ 1 ∷ 2 ∷ 86 ∷ 5 ∷ 72 ∷ 1 ∷ 69 ∷ [])
 
 -- front, M12 V5 H0 E: with the height bound 0
-abbrev pub low_bytes : List ℕ
-low_bytes = front_bytes ++ (77 ∷ 1 ∷ 2 ∷ 86 ∷ 5 ∷ 72 ∷ 0 ∷ 69 ∷ [])
+abbrev pub bound_0_bytes : List ℕ
+bound_0_bytes = front_bytes ++ (77 ∷ 1 ∷ 2 ∷ 86 ∷ 5 ∷ 72 ∷ 0 ∷ 69 ∷ [])
 
 -- front, V5 H1 E: without M
-abbrev pub still_bytes : List ℕ
-still_bytes = front_bytes ++ (86 ∷ 5 ∷ 72 ∷ 1 ∷ 69 ∷ [])
+abbrev pub without_m_bytes : List ℕ
+without_m_bytes = front_bytes ++ (86 ∷ 5 ∷ 72 ∷ 1 ∷ 69 ∷ [])
 
 -- Symbol 0 is a constant, symbol 1 has one argument. The bit is raised for good by an input equal to the constant; while it is
 -- raised, reading 1 has to be symbol 1 of reading 0. `next` is the choice, if any, that gives reading 1 its next value.
@@ -67,9 +63,9 @@ abbrev pub hopper : System
 hopper = sheet_with (Some 2) 1
 
 -- the same with the height bound 0
-abbrev pub low : System
-low = sheet_with (Some 2) 0
+abbrev pub hopper_bound_0 : System
+hopper_bound_0 = sheet_with (Some 2) 0
 
 -- the same without M: reading 1 keeps its value
-abbrev pub still : System
-still = sheet_with None 1
+abbrev pub hopper_without_m : System
+hopper_without_m = sheet_with None 1

@@ -1,8 +1,8 @@
 -- The three sheets worked through: each call in working order with its answer, and what the calls come to. Assumes nothing.
-use Rattle.std.specs.Prelude.{◌≡◌, ℕ, ◌+◌, true, false, List, [], ◌∷◌, map, length}
+use Rattle.std.specs.Prelude.{◌≡◌, ℕ, true, false, List, [], ◌∷◌, map}
 use Rattle.fault.specs.declared.TableFault.TheVariants.{Satisfiable, NoRenaming, UnsafeForm}
 use Rattle.sheet.specs.System.{System}
-use Rattle.terms.specs.Terms.{Term, name, constant, unary}
+use Rattle.terms.specs.Terms.{name, constant, unary}
 use Rattle.forms.specs.Rows.{Row, first_row}
 use Rattle.forms.specs.Safety.{Safe}
 use Rattle.rules.specs.declared.Answer.{Answer}
@@ -13,9 +13,10 @@ use Rattle.rules.specs.declared.Call.TheVariants.{Take, GiveBack, Strike, Merge,
 use Rattle.rules.specs.declared.Entry.{Entry}
 use Rattle.rules.specs.declared.Mark.{Mark}
 use Rattle.rules.specs.declared.Mark.TheVariants.{Waiting, Merged, Kept}
-use Rattle.rules.specs.Standing.{Standing, waiting, out, opening}
-use Rattle.rules.specs.Promises.{is_keep, is_merge, is_strike, accepted}
+use Rattle.rules.specs.declared.Outcome.{Outcome}
+use Rattle.rules.specs.Standing.{Standing, opening, counts_of}
 use Rattle.rules.specs.Laws.{Played}
+use Rattle.rules.specs.Working.{WorkedThrough, SameWork}
 
 abbrev pub branch : ℕ → ℕ → Branch
 branch row number = record { row = row; number = number }
@@ -90,26 +91,23 @@ two_rows m n o p =
       terms = name 0 ∷ name 1 ∷ name 0 ∷ unary 1 (name 0) ∷ name 2 ∷ constant 0 ∷ [];
     }
 
--- these calls have these answers by the rules, from the opening of 64 rows on, and come to this standing
-pub record Works (s : System) (work : List Entry) (at : Standing) : Type 0 where
+-- The work on a table for 64 rows that the sheet opens: these calls, in this order, with these answers.
+pub record Works (s : System) (work : List Entry) (outcome : Outcome) (at : Standing) : Type 0 where
   -- row 0 is safe, so that the table is opened
   pub opens : Safe s (first_row s)
+  -- they are the calls of the work, and come to this outcome and this standing
+  pub worked : WorkedThrough s 64 (opening s) (calls_of work) (answers_of work) outcome at
+  -- by the rules they have these answers
   pub played : Played s 64 (opening s) (calls_of work) (answers_of work) at
+  -- no other calls are the work, and it comes to nothing else
+  pub only : (calls : List Call) (answers : List Answer) (end : Outcome) (after : Standing) → WorkedThrough s 64 (opening s) calls answers end after → SameWork calls (calls_of work) end outcome after at
 
--- rows, and accepted keeps, merges and strikes
-pub record Numbers (work : List Entry) (at : Standing) (rows kept merged struck : ℕ) : Type 0 where
-  pub rows_are : length at.rows ≡ rows
-  pub kept_are : accepted is_keep (calls_of work) (answers_of work) ≡ kept
-  pub merged_are : accepted is_merge (calls_of work) (answers_of work) ≡ merged
-  pub struck_are : accepted is_strike (calls_of work) (answers_of work) ≡ struck
+-- two rows, one kept, three merged and none struck: it holds
+pub record Holding (s : System) : Type 0 where
+  pub works : Works s hopper_work Outcome.Holds (two_rows Merged Kept Merged Merged)
+  pub counts : counts_of (two_rows Merged Kept Merged Merged) ≡ record { rows = 2; kept = 1; merged = 3; struck = 0; waiting = 0; out = 0 }
 
--- holds, with 2 rows, 1 kept, 3 merged and none struck
-pub record HopperHolds (s : System) : Type 0 where
-  pub works : Works s hopper_work (two_rows Merged Kept Merged Merged)
-  pub numbers : Numbers hopper_work (two_rows Merged Kept Merged Merged) 2 1 3 0
-  pub all_settled : waiting (two_rows Merged Kept Merged Merged) + out (two_rows Merged Kept Merged Merged) ≡ 0
-
--- unknown at row 0, branch 1, which waits again
+-- unknown at branch 1 of row 0, which waits again
 pub record Unknown (s : System) (bound : ℕ) : Type 0 where
-  pub works : Works s (unknown_work bound) (one_row Merged Waiting)
-  pub numbers : Numbers (unknown_work bound) (one_row Merged Waiting) 1 0 1 0
+  pub works : Works s (unknown_work bound) (Outcome.Unknown (branch 0 1)) (one_row Merged Waiting)
+  pub counts : counts_of (one_row Merged Waiting) ≡ record { rows = 1; kept = 0; merged = 1; struck = 0; waiting = 1; out = 0 }
