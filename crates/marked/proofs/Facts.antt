@@ -1,5 +1,5 @@
 -- What the rows of the three sheets are like: which conditions are possible, which form an older row takes, and what is safe.
-use Rattle.std.proofs.Common.{◌≡◌, ℕ, zero, suc, ◌<◌, min, true, false, [], ◌∷◌, ◌++◌, Option, refl, arith}
+use Rattle.std.proofs.Common.{◌≡◌, ℕ, zero, suc, ◌<◌, min, true, false, [], ◌∷◌, ◌++◌, Option, refl, arith, rules}
 use Rattle.sheet.specs.Lawful.{Lawful}
 use Rattle.sheet.specs.Runs.{Configuration}
 use Rattle.terms.specs.declared.Sign.TheVariants.{Equal, Different}
@@ -63,7 +63,7 @@ one_safe = (safety_by_cases hopper hopper_read.describe.lawful row_one refl).saf
 
 -- an interpretation covers by its own meaning
 covered : (i : Interpretation) (row : Row) (c : Configuration) → CoversBy i row c → Covers i.meaning row c
-covered i row c by = record { by = i; under = refl; covers = by }
+covered i row c by = record { by = i; under = search rules; covers = by }
 
 -- With the bit raised and the readings free, a form isn't safe: reading 1 may be 1, where symbol 1 means 0.
 abbrev pub free_row : Row
