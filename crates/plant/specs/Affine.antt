@@ -1,8 +1,6 @@
 -- What the affine model means. Assumes nothing.
 use Rattle.std.specs.Prelude.{◌≡◌, ℕ, ◌+◌, ◌*◌, ◌%◌, List, ◌==◌, find, unwrap_or, slice_index}
-use Rattle.std.specs.Int.NonZero.{non_zero_u32_get}
 use Rattle.plant.specs.First.{First}
-use Rattle.plant.specs.declared.affine.Affine.{Affine}
 use Rattle.plant.specs.declared.affine.Curve.{Curve}
 
 abbrev pub zeros : ℕ → Curve
@@ -21,7 +19,3 @@ sum c values = c.p * slice_index values 0 + c.q * slice_index values 1 + c.r * s
 
 abbrev pub affine : ℕ → List Curve → ℕ → List ℕ → ℕ
 affine modulus curves symbol values = sum (curve_of curves symbol) values % modulus
-
--- what a made model means
-abbrev pub meaning_of : Affine → ℕ → List ℕ → ℕ
-meaning_of model = affine (non_zero_u32_get model.modulus) model.curves.now

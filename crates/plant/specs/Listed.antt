@@ -1,13 +1,13 @@
 -- What the listed model means. Assumes nothing.
-use Rattle.std.specs.Prelude.{◌≡◌, ℕ, Bool, ◌&&◌, List, [], ◌∷◌, ◌==◌, find, Ok, Err, Result}
+use Rattle.std.specs.Prelude.{◌≡◌, ℕ, ◌<◌, Bool, ◌&&◌, List, [], ◌∷◌, length, ◌==◌, find, slice_index_or, Ok, Err, Result}
 use Rattle.std.specs.Str.{bytes_eq}
 use Rattle.std.specs.Option.{option_map_or}
 use Rattle.plant.specs.First.{First}
+use Rattle.plant.specs.Plant.{IsValue}
 use Rattle.plant.specs.declared.listed.TooManyValues.{TooManyValues}
 use Rattle.plant.specs.declared.listed.Values.{Values}
 use Rattle.plant.specs.declared.listed.Values.TheVariants.{Zero, One, Two, Three}
 use Rattle.plant.specs.declared.listed.Entry.{Entry}
-use Rattle.plant.specs.declared.listed.Listed.{Listed}
 
 abbrev pub list_of : Values → List ℕ
 list_of Zero = []
@@ -38,6 +38,6 @@ listed default entries symbol values = option_map_or (λ e. e.result) (find (fit
 abbrev pub FirstFitting : ℕ → List Entry → ℕ → List ℕ → ℕ → Type 0
 FirstFitting default entries symbol values = First (Fits symbol values) (λ e. e.result) default entries
 
--- what a made model means
-abbrev pub meaning_of : Listed → ℕ → List ℕ → ℕ
-meaning_of model = listed model.default model.entries.now
+-- each entry's result is a value
+abbrev pub SmallResults : List Entry → Type 0
+SmallResults entries = (k : ℕ) (d : Entry) → k < length entries → IsValue (slice_index_or entries k d).result

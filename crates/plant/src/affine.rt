@@ -1,7 +1,9 @@
 //! The affine model: each symbol is a sum of multiples of its arguments, taken by a modulus.
 ghost use Rattle.std.specs.Prelude.{◌≡◌, ℕ, ◌*◌, ◌^◌, ◌<◌, [], MatchResult, slice_index, find, ◌==◌};
-ghost use Rattle.plant.specs.Affine.{curve_of, FirstCurve, sum, affine, meaning_of};
+ghost use Rattle.plant.specs.Affine.{curve_of, FirstCurve, sum, affine};
 ghost use Rattle.std.specs.Option.{option_copied};
+ghost use Rattle.std.specs.Int.NonZero.{non_zero_u32_get};
+ghost use Rattle.plant.specs.Plant.{IsValue};
 ghost use Rattle.plant.specs.declared.affine.Curve.{Curve};
 ghost use Rattle.fault.specs.declared.ModelFault.TheVariants.{ZeroModulus};
 
@@ -24,9 +26,12 @@ pub struct Curve {
 pub struct Affine<'a> {
     modulus: NonZeroU32,
     curves: &'a [Curve],
+    ghost small: { IsValue (non_zero_u32_get modulus) },
 }
 
 impl<'a> Affine<'a> {
+    ghost use Rattle.plant.specs.AffineModel.{meaning_of};
+
     pub fn new(modulus: u32, curves: &'a [Curve]) -> Result<Affine<'a>, Fault>
         ensures meaning { MatchResult result (λ model. (0 < modulus) × (meaning_of model ≡ affine modulus curves.now)) (λ fault. (modulus ≡ 0) × (fault ≡ Fault.Model ZeroModulus)) }
         ensures first { (symbol : ℕ) → FirstCurve curves.now symbol (curve_of curves.now symbol) }
@@ -83,6 +88,8 @@ fn sum_at(curve: Curve, values: &[u32]) -> u64
 }
 
 impl<'a> PlantModel for Affine<'a> {
+    ghost use Rattle.plant.specs.AffineModel.{meaning_of, is_plant};
+
     ghost meaning = { meaning_of };
 
     ghost lenders = { λ _. [] };
@@ -91,4 +98,6 @@ impl<'a> PlantModel for Affine<'a> {
         let sum = sum_at(curve_of(self.curves, symbol), values);
         (sum % u64::from(self.modulus.get())) as u32
     }
+
+    ghost plant = { is_plant };
 }

@@ -3,6 +3,7 @@
 #![tactic(auto)]
 
 ghost use Rattle.std.specs.Prelude.{◌≡◌, ℕ, List};
+ghost use Rattle.plant.specs.Plant.{IsPlant};
 
 pub mod affine;
 pub mod listed;
@@ -27,4 +28,12 @@ pub trait Model {
         ensures answer { result ≡ meaning self.old symbol values.now }
         ensures kept { meaning self.new ≡ meaning self.old }
         ensures lent { lenders self.new ≡ lenders self.old };
+
+    /// Every question is answered with a value.
+    ghost plant: { (model : Self) → IsPlant (meaning model) };
 }
+
+/// A model means a plant, whichever it is.
+pub fn means_a_plant<M: Model>(_model: &M)
+    ensures { IsPlant (M.meaning _model.now) }
+{}

@@ -1,7 +1,8 @@
 //! The listed model: entries that say a symbol's value at values, and a default for all else.
-ghost use Rattle.std.specs.Prelude.{◌≡◌, ℕ, List, [], find};
+ghost use Rattle.std.specs.Prelude.{◌≡◌, ℕ, List, [], true, find};
 ghost use Rattle.std.specs.Option.{option_copied};
-ghost use Rattle.plant.specs.Listed.{values_of, fits, listed, FirstFitting, meaning_of};
+ghost use Rattle.plant.specs.Listed.{values_of, fits, listed, FirstFitting, SmallResults};
+ghost use Rattle.plant.specs.Plant.{IsValue};
 
 use super::Model as PlantModel;
 
@@ -52,18 +53,44 @@ impl Entry {
     }
 }
 
+/// Whether a number is a value: each `u32` is.
+fn is_value(number: u32) -> bool
+    ensures always { result ≡ true }
+    ensures small { IsValue number }
+{
+    number <= u32::MAX
+}
+
+/// Whether each result is a value: it is, by its type, and here a proof learns it of all of them at once.
+fn has_values(entries: &[Entry]) -> bool
+    ensures always { result ≡ true }
+    ensures small { SmallResults entries.now }
+{
+    for entry in entries {
+        if !is_value(entry.result) {
+            return false;
+        }
+    }
+    true
+}
+
 /// A model by lent entries: the first that fits answers, else the default.
 #[derive(Clone, Copy, Debug)]
 pub struct Listed<'a> {
     default: u32,
     entries: &'a [Entry],
+    ghost small_default: { IsValue default },
+    ghost small_results: { SmallResults entries.now },
 }
 
 impl<'a> Listed<'a> {
+    ghost use Rattle.plant.specs.ListedModel.{meaning_of};
+
     pub fn new(default: u32, entries: &'a [Entry]) -> Listed<'a>
         ensures meaning { meaning_of result ≡ listed default entries.now }
         ensures first { (symbol : ℕ) (values : List ℕ) → FirstFitting default entries.now symbol values (meaning_of result symbol values) }
     {
+        prove!(has_values(entries));
         Listed { default, entries }
     }
 }
@@ -82,6 +109,8 @@ fn first_fitting(default: u32, entries: &[Entry], symbol: u8, values: &[u32]) ->
 }
 
 impl<'a> PlantModel for Listed<'a> {
+    ghost use Rattle.plant.specs.ListedModel.{meaning_of, is_plant};
+
     ghost meaning = { meaning_of };
 
     ghost lenders = { λ _. [] };
@@ -89,4 +118,6 @@ impl<'a> PlantModel for Listed<'a> {
     fn apply(&mut self, symbol: u8, values: &[u32]) -> u32 {
         first_fitting(self.default, self.entries, symbol, values)
     }
+
+    ghost plant = { is_plant };
 }
