@@ -1,5 +1,6 @@
 //! A model of one value that writes down which symbols it is asked for.
 ghost use Rattle.std.specs.Prelude.{[]};
+ghost use Rattle.plant.specs.Plant.{IsValue};
 
 use plant::Model as PlantModel;
 
@@ -8,6 +9,7 @@ use plant::Model as PlantModel;
 pub struct Recorder {
     pub value: u32,
     pub asked: Vec<u8>,
+    ghost small: { IsValue value },
 }
 
 impl PlantModel for Recorder {
@@ -20,4 +22,6 @@ impl PlantModel for Recorder {
         let _ = self.asked.push(symbol);
         self.value
     }
+
+    ghost plant = { λ r _ _ _. r.small };
 }

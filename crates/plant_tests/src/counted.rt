@@ -31,6 +31,8 @@ impl<M: PlantModel> PlantModel for Counted<M> {
         self.asked = one_more(self.asked);
         self.below.apply(symbol, values)
     }
+
+    ghost plant = { λ layer. M.plant layer.below };
 }
 
 /// Counts over a model that is lent.
@@ -50,4 +52,6 @@ impl<'a, M: PlantModel> PlantModel for CountedOver<'a, M> {
         self.asked = one_more(self.asked);
         self.below.apply(symbol, values)
     }
+
+    ghost plant = { λ layer. M.plant layer.below.now };
 }

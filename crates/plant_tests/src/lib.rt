@@ -1,7 +1,8 @@
-//! A layer over any model, and tests of the models' corners.
+//! Layers over any model, an odd model, and tests of the models' corners.
 #![tactic(auto)]
 
 pub mod client;
 pub mod counted;
+pub mod odd;
 #[cfg(test)]
 mod tests;
