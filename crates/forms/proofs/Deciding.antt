@@ -15,7 +15,7 @@ use Rattle.sheet.specs.Lawful.{each_at, Lawful}
 use Rattle.sheet.specs.Rules.{no_info, input_at, args_info, term_info, term_infos, names, keeps, obeys_at, args_below, contains_input}
 use Rattle.sheet.specs.Runs.{Configuration, numbered, or_kept, invariant_holds}
 use Rattle.sheet.specs.System.{System}
-use Rattle.sheet.specs.Truth.{Meaning, arg_values, term_value, term_values, equal, answers, truths}
+use Rattle.sheet.specs.Truth.{arg_values, term_value, term_values, equal, answers, truths}
 use Rattle.sheet.proofs.Growing.{grow-length}
 use Rattle.terms.specs.Terms.{Term, Interpretation, eval, Holds}
 use Rattle.banks.proofs.Gaining.{all_left, all_right}
@@ -23,6 +23,7 @@ use Rattle.forms.specs.Rows.{Row, RowOf}
 use Rattle.forms.specs.Candidate.{no_term, applied, term_over, terms_over, branch_answers, condition_of}
 use Rattle.forms.specs.Safety.{Safe, Unsafe, Breaking, claim_conditions}
 use Rattle.forms.specs.Laws.{Decided, SafetyByCases}
+use Rattle.forms.proofs.Answering.{covered_small, interpreted, invariant_same}
 use Rattle.forms.proofs.Branches.{branch_of, branch_small, answers_of_branch, answers_long}
 use Rattle.forms.proofs.Stepping.{value_at, Agrees, conditions_true, answers_told}
 
@@ -143,7 +144,7 @@ module _ (s : System) (lawful : Lawful s) (form : Row) (shaped : RowOf s form) w
       record {
         meaning = j.meaning;
         configuration = under j;
-        covers = record { by = j; under = refl; covers = record { bits = refl; conditions = all_right (Holds j) (claim_conditions s form b.claims) form.conditions all; readings = refl } };
+        covers = record { by = j; under = λ f vs _. refl; covers = record { bits = refl; conditions = all_right (Holds j) (claim_conditions s form b.claims) form.conditions all; readings = refl } };
         broken = ap with_replies told ∙ b.broken;
       }
 
@@ -154,7 +155,7 @@ module _ (s : System) (lawful : Lawful s) (form : Row) (shaped : RowOf s form) w
       breaks e =
           let j = covers.by in
           let at : under j ≡ c = λ k. record { bits = covers.covers.bits k; readings = covers.covers.readings k } in
-          unsafe_breaks j covers.covers.conditions (ap (λ d. invariant_holds j.meaning s d) at ∙ (ap (λ (n : Meaning). invariant_holds n s c) covers.under ∙ e))
+          unsafe_breaks j covers.covers.conditions (ap (λ d. invariant_holds j.meaning s d) at ∙ (invariant_same s lawful j.meaning m (interpreted j) covers.under c (covered_small j form c covers.covers) ∙ e))
 
   decided : Decided s form
   decided =

@@ -1,4 +1,5 @@
 pub mod Values
+pub mod Answering
 pub mod Renaming
 pub mod Cutting
 pub mod Branches

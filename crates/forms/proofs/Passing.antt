@@ -4,6 +4,7 @@ use Rattle.std.specs.List.{AllByRecursion as All}
 use Rattle.std.proofs.ByRecursion.{All-append, All-weaker}
 use Rattle.std.proofs.lemmas.List.{length-map}
 use Rattle.std.proofs.lemmas.Bool.{or_left, or_right}
+use Rattle.plant.specs.Plant.{IsValue, SameAnswers}
 use Rattle.sheet.proofs.Growing.{grow-length}
 use Rattle.sheet.specs.declared.syntax.Equation.{Equation}
 use Rattle.sheet.specs.Lawful.{Lawful}
@@ -14,6 +15,7 @@ use Rattle.terms.specs.Terms.{Term, Interpretation, eval, Holds}
 use Rattle.forms.specs.Rows.{Row, RowOf, CoversBy, Covers, occurs_in_terms, occurs_in_literals, stands}
 use Rattle.forms.specs.Candidate.{or_none, branch_answers, input_names, term_over, terms_over, row_truths, row_chosen, candidate_with, candidate}
 use Rattle.forms.specs.Laws.{Enters, InputsOf, BranchCovers, CandidateCovers, ImpossibleBranch}
+use Rattle.forms.proofs.Answering.{covered_small, interpreted, step_values_same, step_same}
 use Rattle.forms.proofs.Branches.{branch_of, branch_small, answers_of_branch, branch_of_answers}
 use Rattle.forms.proofs.Naming.{names_new, assigned, Alike, values_elsewhere, values_given, taken_elsewhere, vector_alike, conditions_alike}
 use Rattle.forms.proofs.Stepping.{value_at, terms_values, Agrees, conditions_true, equations_inside, choices_inside, next_values}
@@ -83,23 +85,41 @@ branch_covers s lawful row shaped names is i c covers inputs ok =
       covers = subst (λ a. CoversBy j (candidate_with s row names a) (step i.meaning s c inputs)) (sym enters) moved;
     }
 
+-- the step of a covered configuration is the step under the meaning that covers it, which enters the same branch
+module _ (s : System) (lawful : Lawful s) (row : Row) (m : Meaning) (c : Configuration) (covers : Covers m row c) (inputs : List ℕ) (ok : InputsOf s inputs) where
+  small : All IsValue c.readings
+  small = covered_small covers.by row c covers.covers
+
+  pub entered : (b : ℕ) → Enters covers.by.meaning s c inputs b → Enters m s c inputs b
+  entered b enters = enters ∙ ap (λ vs. answers vs s.questions) (step_values_same s lawful covers.by.meaning m (interpreted covers.by) covers.under c inputs small ok.small)
+
+  entered_by : (b : ℕ) → Enters m s c inputs b → Enters covers.by.meaning s c inputs b
+  entered_by b enters = enters ∙ sym (ap (λ vs. answers vs s.questions) (step_values_same s lawful covers.by.meaning m (interpreted covers.by) covers.under c inputs small ok.small))
+
+  stepped_by : step covers.by.meaning s c inputs ≡ step m s c inputs
+  stepped_by = step_same s lawful covers.by.meaning m (interpreted covers.by) covers.under c inputs small ok.small
+
 -- the step of a covered configuration that goes through the branch
-found_steps : (s : System) → Lawful s → (row : Row) → RowOf s row → (b : ℕ) → b < 2 ^ length s.questions → (next : Row) → candidate s row b ≡ Some next → (m : Meaning) (c : Configuration) → Covers m row c → (inputs : List ℕ) → InputsOf s inputs → Enters m s c inputs b → (j : Interpretation) × (j.meaning ≡ m) × CoversBy j next (step m s c inputs)
+found_steps : (s : System) → Lawful s → (row : Row) → RowOf s row → (b : ℕ) → b < 2 ^ length s.questions → (next : Row) → candidate s row b ≡ Some next → (m : Meaning) (c : Configuration) → Covers m row c → (inputs : List ℕ) → InputsOf s inputs → Enters m s c inputs b → Covers m next (step m s c inputs)
 found_steps s lawful row shaped b small next made m c covers inputs ok enters = by (input_names s row) refl made
   where
-    by : (o : Option (List ℕ)) → input_names s row ≡ o → or_none o (λ xs. Some (candidate_with s row xs (branch_answers (length s.questions) b))) ≡ Some next → (j : Interpretation) × (j.meaning ≡ m) × CoversBy j next (step m s c inputs)
+    by : (o : Option (List ℕ)) → input_names s row ≡ o → or_none o (λ xs. Some (candidate_with s row xs (branch_answers (length s.questions) b))) ≡ Some next → Covers m next (step m s c inputs)
     by None is made' = let z : ◌≡◌ {A = ℕ} 0 1 = cc in absurd (omega arith)
     by (Some names) is made' =
         let steps = branch_covers s lawful row shaped names is covers.by c covers.covers inputs ok in
-        let here = steps.only b small (subst (λ n. Enters n s c inputs b) (sym covers.under) enters) in
+        let here = steps.only b small (entered_by s lawful row m c covers inputs ok b enters) in
         let same' : ◌≡◌ {A = Option Row} (Some steps.next) (Some next) = sym steps.made ∙ (ap (candidate s row) (sym here) ∙ made) in
         let e : steps.next ≡ next = cc in
-        (steps.by, steps.under ∙ covers.under, subst (λ (n : Meaning). CoversBy steps.by next (step n s c inputs)) covers.under (subst (λ r. CoversBy steps.by r (step covers.by.meaning s c inputs)) e steps.covers))
+        record {
+          by = steps.by;
+          under = subst (λ n. SameAnswers n m) (sym steps.under) covers.under;
+          covers = subst (CoversBy steps.by next) (stepped_by s lawful row m c covers inputs ok) (subst (λ r. CoversBy steps.by r (step covers.by.meaning s c inputs)) e steps.covers);
+        }
 
 pub candidate_covers : CandidateCovers
 candidate_covers s lawful row shaped b small next made m c covers inputs ok enters =
-    let f = found_steps s lawful row shaped b small next made m c covers inputs ok enters in record { by = f.0; under = f.1; covers = f.2 }
+    found_steps s lawful row shaped b small next made m c covers inputs ok enters
 
 pub impossible_branch : ImpossibleBranch
 impossible_branch s lawful row shaped b small next made never m c covers inputs ok enters =
-    let f = found_steps s lawful row shaped b small next made m c covers inputs ok enters in never (f.0, f.2.conditions)
+    let f = found_steps s lawful row shaped b small next made m c covers inputs ok enters in never (f.by, f.covers.conditions)

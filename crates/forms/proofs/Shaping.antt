@@ -1,5 +1,5 @@
 -- Row 0 covers every start; candidates and forms have the shape that the laws need; a candidate has one form.
-use Rattle.std.proofs.Common.{◌≡◌, ℕ, zero, suc, ◌^◌, ◌<◌, ◌≤◌, true, false, ltb, ◌⊎◌, List, [], ◌∷◌, map, length, get_or, Some, None, filter, Option, sym, refl, ap, ◌∙◌, subst, inl, inr, arith}
+use Rattle.std.proofs.Common.{◌≡◌, ℕ, ◌^◌, ◌<◌, ◌≤◌, true, false, ltb, ◌⊎◌, List, [], ◌∷◌, map, length, get_or, Some, None, filter, Option, sym, refl, ap, ◌∙◌, subst, inl, inr, arith}
 use Rattle.std.specs.List.{AllByRecursion as All}
 use Rattle.std.proofs.ByRecursion.{All-take, all_kept_by, kept_by_passes}
 use Rattle.std.proofs.lemmas.List.{length-map, length-take}
@@ -11,17 +11,13 @@ use Rattle.sheet.specs.Runs.{start_value, start_reading}
 use Rattle.sheet.specs.Truth.{Meaning}
 use Rattle.sheet.proofs.Numbering.{numbered-length}
 use Rattle.terms.specs.Terms.{Term, name, Interpretation, eval, height, replaced, Literal}
-use Rattle.forms.specs.Rows.{Row, RowOf, start_term, start_of, stands, lowest_free}
+use Rattle.forms.specs.Rows.{Row, RowOf, CoversBy, start_term, start_of, first_row, stands, lowest_free}
 use Rattle.forms.specs.Candidate.{or_none, input_names, branch_answers, candidate_with}
 use Rattle.forms.specs.Form.{first_higher, lowest, replaced_row, Cut, low, nameless, cut, is_low, is_named, without_repeats, trimmed, Form}
 use Rattle.forms.specs.Laws.{FirstRowCovers, Formed, OneForm, CandidateShaped}
+use Rattle.forms.proofs.Answering.{small_at, clipped, clipped_small, clipped_same, interpreted, start_same}
 use Rattle.forms.proofs.Cutting.{all_once}
 use Rattle.forms.proofs.Shrinking.{some_form}
-
-small_at : (vs : List ℕ) → All (λ v. v < 2 ^ 32) vs → (x : ℕ) → get_or vs x 0 < 2 ^ 32
-small_at [] all x = omega arith
-small_at (v ∷ vs) all zero = all.0
-small_at (v ∷ vs) all (suc x) = small_at vs all.1 x
 
 abbrev at_start : (m : Meaning) → ((f : ℕ) (vs : List ℕ) → m f vs < 2 ^ 32) → (values : List ℕ) → ((x : ℕ) → get_or values x 0 < 2 ^ 32) → Interpretation
 at_start m small values all = record { meaning = m; values = λ x. get_or values x 0; meaning_small = small; values_small = all }
@@ -36,8 +32,19 @@ start_values m small values all (r ∷ rs) =
     let p = eval-start_term m small values all r.start in let q = start_values m small values all rs in cc
 
 pub first_row_covers : FirstRowCovers
-first_row_covers s =
-    record { shaped = length-map s.readings start_of; covers = λ m small values all. record { by = at_start m small values (small_at values all); under = refl; covers = record { bits = refl; conditions = tt; readings = start_values m small values (small_at values all) s.readings } } }
+first_row_covers s lawful =
+    record {
+      shaped = length-map s.readings start_of;
+      covers = λ m plant values all.
+          let p = clipped m in
+          let i = at_start p (clipped_small m) values (small_at values all) in
+          let same' = start_same s lawful p m (interpreted i) (clipped_same m plant) values in
+          record {
+            by = i;
+            under = clipped_same m plant;
+            covers = subst (CoversBy i (first_row s)) same' (record { bits = refl; conditions = tt; readings = start_values p (clipped_small m) values (small_at values all) s.readings });
+          };
+    }
 
 pub candidate_shaped : CandidateShaped
 candidate_shaped s row b next made = by (input_names s row) made

@@ -1,6 +1,7 @@
 -- What rows, forms and matching are for. Assumes nothing.
 use Rattle.std.specs.Prelude.{◌≡◌, ℕ, ◌^◌, ◌<◌, ◌≤◌, Bool, true, false, List, map, length, Some, None, Option}
 use Rattle.std.specs.List.{AllByRecursion}
+use Rattle.plant.specs.Plant.{IsValue, IsPlant}
 use Rattle.sheet.specs.Lawful.{Lawful}
 use Rattle.sheet.specs.Runs.{Configuration, start, step_values, step}
 use Rattle.sheet.specs.System.{System}
@@ -47,7 +48,7 @@ pub record Steps (s : System) (row : Row) (names : List ℕ) (i : Interpretation
 -- the inputs of one step of a sheet
 pub record InputsOf (s : System) (inputs : List ℕ) : Type 0 where
   pub long : length inputs ≡ s.inputs
-  pub small : AllByRecursion (λ v. v < 2 ^ 32) inputs
+  pub small : AllByRecursion IsValue inputs
 
 -- a configuration that a row covers goes, with any inputs, through exactly one branch, and that branch's
 -- candidate covers the next configuration
@@ -80,13 +81,17 @@ pub record Decided (s : System) (form : Row) : Type 0 where
 abbrev pub SafetyByCases : Type 0
 SafetyByCases = (s : System) → Lawful s → (form : Row) → RowOf s form → Decided s form
 
--- row 0 covers every start, and has a term for each reading
+-- row 0 covers the start from any values
+abbrev pub StartsCovered : System → Meaning → Type 0
+StartsCovered s m = (values : List ℕ) → AllByRecursion IsValue values → Covers m (first_row s) (start m s values)
+
+-- row 0 covers every start on every plant, and has a term for each reading
 pub record Starts (s : System) : Type 0 where
   pub shaped : RowOf s (first_row s)
-  pub covers : (m : Meaning) → ((f : ℕ) (vs : List ℕ) → m f vs < 2 ^ 32) → (values : List ℕ) → AllByRecursion (λ v. v < 2 ^ 32) values → Covers m (first_row s) (start m s values)
+  pub covers : (m : Meaning) → IsPlant m → StartsCovered s m
 
 abbrev pub FirstRowCovers : Type 0
-FirstRowCovers = (s : System) → Starts s
+FirstRowCovers = (s : System) → Lawful s → Starts s
 
 -- what a form is like: nothing in it is higher than h, it has at most 16 conditions, and their names stand in
 -- its vector

@@ -1,6 +1,7 @@
 -- Rows: symbolic states over names, and the configurations that they cover. Assumes nothing.
 use Rattle.std.specs.Prelude.{◌≡◌, ℕ, zero, suc, Bool, false, cond, ◌||◌, List, [], ◌∷◌, map, length, Some, None, Option}
 use Rattle.std.specs.List.{AllByRecursion}
+use Rattle.plant.specs.Plant.{SameAnswers}
 use Rattle.sheet.specs.declared.syntax.Reading.{Reading}
 use Rattle.sheet.specs.declared.syntax.Start.{Start}
 use Rattle.sheet.specs.Runs.{Configuration, start_bit}
@@ -20,10 +21,11 @@ pub record CoversBy (i : Interpretation) (row : Row) (c : Configuration) : Type 
   pub conditions : AllByRecursion (Holds i) row.conditions
   pub readings : map (eval i) row.vector ≡ c.readings
 
--- under the meaning m, some values of the names do so
+-- Some values of the names do so, under a meaning that answers each question of a sheet as m does: what m is elsewhere,
+-- no sheet asks.
 pub record Covers (m : Meaning) (row : Row) (c : Configuration) : Type 0 where
   pub by : Interpretation
-  pub under : by.meaning ≡ m
+  pub under : SameAnswers by.meaning m
   pub covers : CoversBy by row c
 
 -- Row 0: the start bits, start name i as name i, the start constants, and no condition.

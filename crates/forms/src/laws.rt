@@ -1,7 +1,11 @@
 //! The laws that make cutting and folding safe. Each function does nothing; its contract is the law.
 
 ghost use Rattle.forms.specs.Examples.{Examples};
-ghost use Rattle.forms.specs.Laws.{BranchCovers, CandidateCovers, CandidateShaped, CountedForm, FirstRowCovers, FittingCovers, FormCovers, ImpossibleBranch, OneForm, Rules, SafetyByCases};
+ghost use Rattle.forms.specs.Laws.{BranchCovers, CandidateCovers, CandidateShaped, CountedForm, FirstRowCovers, FittingCovers, FormCovers, ImpossibleBranch, OneForm, Rules, SafetyByCases, StartsCovered};
+ghost use Rattle.sheet.specs.View.{sheet_of};
+
+use plant::Model;
+use sheet::Sheet;
 
 /// A configuration that a row covers goes, with any inputs, through exactly one branch, and that branch's
 /// candidate covers the next configuration.
@@ -35,9 +39,14 @@ pub fn safety_by_cases()
     ensures { SafetyByCases }
 {}
 
-/// Row 0 has a term for each reading and covers every start.
+/// Row 0 has a term for each reading and covers every start on every plant.
 pub fn first_row_covers()
     ensures { FirstRowCovers }
+{}
+
+/// The same for any model: what holds of every plant holds of what a model means.
+pub fn first_row_covers_model<M: Model>(_sheet: &Sheet, _model: &M)
+    ensures { StartsCovered (sheet_of _sheet.now) (M.meaning _model.now) }
 {}
 
 /// A candidate has a term for each reading.

@@ -7,6 +7,6 @@ mod laws;
 
 pub use laws::{
     branch_covers, candidate_covers, candidate_shaped, counted_form, cutting_rules,
-    first_row_covers, fitting_covers, form_covers, impossible_branch, one_form, safety_by_cases,
-    worked_examples,
+    first_row_covers, first_row_covers_model, fitting_covers, form_covers, impossible_branch,
+    one_form, safety_by_cases, worked_examples,
 };
