@@ -32,10 +32,10 @@ start_values m small values all (r ∷ rs) =
     let p = eval-start_term m small values all r.start in let q = start_values m small values all rs in cc
 
 pub first_row_covers : FirstRowCovers
-first_row_covers s lawful =
+first_row_covers s =
     record {
       shaped = length-map s.readings start_of;
-      covers = λ m plant values all.
+      covers = λ lawful m plant values all.
           let p = clipped m in
           let i = at_start p (clipped_small m) values (small_at values all) in
           let same' = start_same s lawful p m (interpreted i) (clipped_same m plant) values in

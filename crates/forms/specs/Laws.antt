@@ -85,13 +85,13 @@ SafetyByCases = (s : System) → Lawful s → (form : Row) → RowOf s form → 
 abbrev pub StartsCovered : System → Meaning → Type 0
 StartsCovered s m = (values : List ℕ) → AllByRecursion IsValue values → Covers m (first_row s) (start m s values)
 
--- row 0 covers every start on every plant, and has a term for each reading
+-- row 0 has a term for each reading, and covers every start of a lawful sheet on every plant
 pub record Starts (s : System) : Type 0 where
   pub shaped : RowOf s (first_row s)
-  pub covers : (m : Meaning) → IsPlant m → StartsCovered s m
+  pub covers : Lawful s → (m : Meaning) → IsPlant m → StartsCovered s m
 
 abbrev pub FirstRowCovers : Type 0
-FirstRowCovers = (s : System) → Lawful s → Starts s
+FirstRowCovers = (s : System) → Starts s
 
 -- what a form is like: nothing in it is higher than h, it has at most 16 conditions, and their names stand in
 -- its vector

@@ -4,6 +4,7 @@ use Rattle.std.specs.List.{slice_get, AllByRecursion as All}
 use Rattle.std.proofs.ByRecursion.{All-take, All-drop}
 use Rattle.std.proofs.lemmas.List.{length-take-le, length-drop}
 use Rattle.std.proofs.lemmas.Option.{slice_get_within}
+use Rattle.plant.specs.Plant.{IsPlant}
 use Rattle.sheet.specs.Lawful.{Lawful}
 use Rattle.sheet.specs.Runs.{Configuration, after, step, inputs_of}
 use Rattle.sheet.specs.System.{System}
@@ -11,12 +12,12 @@ use Rattle.sheet.specs.Truth.{Meaning}
 use Rattle.forms.specs.Rows.{Row, Covers, first_row}
 use Rattle.forms.specs.Candidate.{branch_answers, candidate_with, input_names}
 use Rattle.forms.specs.Laws.{Enters, InputsOf, NotEntered, CoversStep}
-use Rattle.forms.proofs.Passing.{branch_covers}
+use Rattle.forms.proofs.Passing.{branch_covers, entered}
 use Rattle.forms.proofs.Shaping.{first_row_covers}
 use Rattle.rules.specs.declared.Mark.{Mark}
 use Rattle.rules.specs.declared.Mark.TheVariants.{Waiting, Out, Struck, Merged, Kept}
 use Rattle.rules.specs.Standing.{Standing, is_waiting, is_out, waiting, out, opening}
-use Rattle.rules.specs.Safety.{IsSmall, Covered}
+use Rattle.rules.specs.Safety.{Covered}
 use Rattle.rules.proofs.Marking.{get_within, or_none_some, none_counted}
 use Rattle.rules.proofs.Resolving.{Among, Resolved, Settled, Sound, opening_sound, turns_sound}
 
@@ -66,23 +67,23 @@ module _ (s : System) (lawful : Lawful s) (at : Standing) (sound : Sound s at) (
       let first = each_resolved here.1 row here.2 0 (pow_pos (length s.questions)) in
       let names = or_none_some (input_names s row) (λ xs. Some (candidate_with s row xs (branch_answers (length s.questions) 0))) first.next first.made in
       let steps = branch_covers s lawful row (sound.shaped here.1 row here.2) names.0 names.1 here.3.by c here.3.covers inputs ok in
-      let enters : Enters m s c inputs steps.branch = subst (λ (n : Meaning). Enters n s c inputs steps.branch) here.3.under steps.enters in
+      let enters = entered s lawful row m c here.3 inputs ok steps.branch steps.enters in
       by steps.branch enters (each_resolved here.1 row here.2 steps.branch steps.within).goes
     where
       by : (b : ℕ) → Enters m s c inputs b → NotEntered s here.0 b ⊎ ((target : Row) × Among at.rows target × CoversStep s here.0 b target) → Reached m (step m s c inputs)
       by b enters (inl never) = absurd (never m c here.3 inputs ok enters)
       by b enters (inr g) = (g.0, g.1.0, g.1.1, g.2 m c here.3 inputs ok enters)
 
-  pub all_reached : (m : Meaning) → IsSmall m → (starts inputs : List ℕ) → All (λ v. v < 2 ^ 32) starts → All (λ v. v < 2 ^ 32) inputs → (n : ℕ) → n * s.inputs ≤ length inputs → Reached m (after m s starts inputs n)
-  all_reached m small starts inputs starts_small inputs_small zero enough = (first_row s, 0, sound.first, (first_row_covers s).covers m small starts starts_small)
-  all_reached m small starts inputs starts_small inputs_small (suc n) enough =
+  pub all_reached : (m : Meaning) → IsPlant m → (starts inputs : List ℕ) → All (λ v. v < 2 ^ 32) starts → All (λ v. v < 2 ^ 32) inputs → (n : ℕ) → n * s.inputs ≤ length inputs → Reached m (after m s starts inputs n)
+  all_reached m plant starts inputs starts_small inputs_small zero enough = (first_row s, 0, sound.first, (first_row_covers s).covers lawful m plant starts starts_small)
+  all_reached m plant starts inputs starts_small inputs_small (suc n) enough =
       let e : suc n * s.inputs ≡ n * s.inputs + s.inputs = grind arith in
       next_reached m (after m s starts inputs n) (inputs_of s inputs n) (inputs_ok s inputs n enough inputs_small)
-      (all_reached m small starts inputs starts_small inputs_small n (omega (arith, e, enough)))
+      (all_reached m plant starts inputs starts_small inputs_small n (omega (arith, e, enough)))
 
 pub covered : Covered
-covered s lawful safe limit calls at comes none m small starts inputs n run =
+covered s lawful safe limit calls at comes none m plant starts inputs n run =
     let sound = turns_sound s lawful limit calls (opening s) at (opening_sound s safe) comes in
     let enough : n * s.inputs ≤ length inputs = omega (arith, run.inputs_long) in
-    let it = all_reached s lawful at sound none m small starts inputs run.starts_small run.inputs_small n enough in
+    let it = all_reached s lawful at sound none m plant starts inputs run.starts_small run.inputs_small n enough in
     record { number = it.1; row = it.0; is_row = it.2; covers = it.3; invariant = sound.safe it.1 it.0 it.2 m (after m s starts inputs n) it.3 }

@@ -2,16 +2,13 @@
 use Rattle.std.proofs.Common.{◌≡◌, ℕ, zero, suc, ◌+◌, List, [], ◌∷◌, take, Some, refl, subst}
 use Rattle.std.specs.List.{slice_get}
 use Rattle.std.proofs.lemmas.Option.{none-some, same_Some}
-use Rattle.sheet.specs.Lawful.{Lawful}
 use Rattle.sheet.specs.System.{System}
-use Rattle.forms.specs.Rows.{first_row}
-use Rattle.forms.specs.Safety.{Safe}
 use Rattle.rules.specs.declared.Answer.{Answer}
 use Rattle.rules.specs.declared.Answer.TheVariants.{Holds}
 use Rattle.rules.specs.declared.Call.{Call}
 use Rattle.rules.specs.declared.Call.TheVariants.{Take, GiveBack, Strike, Merge, Keep, Verdict}
 use Rattle.rules.specs.Standing.{Standing, opening, waiting, out}
-use Rattle.rules.specs.Promises.{Answered, AlwaysTrue}
+use Rattle.rules.specs.Promises.{Answered}
 use Rattle.rules.specs.Laws.{Played}
 use Rattle.rules.specs.Safety.{Keeping}
 use Rattle.rules.proofs.Accounts.{played_turns}

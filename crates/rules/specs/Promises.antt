@@ -1,10 +1,11 @@
 -- What holds of any list of calls on a newly opened table, and of its answers. Assumes nothing.
-use Rattle.std.specs.Prelude.{◌≡◌, ◌↔◌, ℕ, ◌+◌, ◌*◌, ◌^◌, ◌<◌, ◌≤◌, ◌⊎◌, Bool, true, false, ◌&&◌, List, ◌++◌, length, take, zip, count_by, is_none, slice_get, Some, None, Option}
+use Rattle.std.specs.Prelude.{◌≡◌, ◌↔◌, ℕ, ◌+◌, ◌*◌, ◌<◌, ◌≤◌, ◌⊎◌, Bool, true, false, ◌&&◌, List, ◌++◌, length, take, zip, count_by, is_none, slice_get, Some, None, Option}
 use Rattle.std.specs.List.{AllByRecursion}
 use Rattle.fault.specs.declared.Fault.{Fault}
 use Rattle.fault.specs.declared.TableFault.{TableFault}
 use Rattle.fault.specs.declared.TableFault.TheVariants.{BadMemory, UnsafeStart}
 use Rattle.fault.specs.Values.{values_of}
+use Rattle.plant.specs.Plant.{IsValue, IsPlant}
 use Rattle.sheet.specs.Runs.{after, invariant_holds, FirstBreak}
 use Rattle.sheet.specs.System.{System}
 use Rattle.sheet.specs.Truth.{Meaning}
@@ -21,13 +22,6 @@ use Rattle.rules.specs.declared.Call.{Call}
 use Rattle.rules.specs.declared.Call.TheVariants.{Take, GiveBack, Strike, Merge, Keep, Verdict}
 use Rattle.rules.specs.Standing.{Standing, branches, waiting, out}
 use Rattle.rules.specs.Calls.{Borne, RefusedBy, Makes, ComesTo}
-
--- what a plant model means: at symbols and at most three values, one value
-abbrev pub IsValue : ℕ → Type 0
-IsValue v = v < 2 ^ 32
-
-abbrev pub IsPlant : Meaning → Type 0
-IsPlant m = (f : ℕ) (vs : List ℕ) → f < 32 → length vs ≤ 3 → AllByRecursion IsValue vs → IsValue (m f vs)
 
 -- start values, and the inputs of n steps
 pub record RunInputs (s : System) (starts inputs : List ℕ) (n : ℕ) : Type 0 where

@@ -1,5 +1,6 @@
 -- Safety by the rules alone: no code is in it. Assumes nothing.
 use Rattle.std.specs.Prelude.{◌≡◌, ℕ, ◌+◌, true, List, slice_get, Some}
+use Rattle.plant.specs.Plant.{IsPlant}
 use Rattle.sheet.specs.Lawful.{Lawful}
 use Rattle.sheet.specs.Runs.{after, invariant_holds}
 use Rattle.sheet.specs.System.{System}
@@ -12,11 +13,7 @@ use Rattle.rules.specs.Calls.{ComesTo}
 use Rattle.rules.specs.declared.Answer.{Answer}
 use Rattle.rules.specs.Standing.{opening}
 use Rattle.rules.specs.Laws.{Played}
-use Rattle.rules.specs.Promises.{IsValue, RunInputs, AlwaysTrue, Promises}
-
--- a meaning whose every value is one
-abbrev pub IsSmall : Meaning → Type 0
-IsSmall m = (f : ℕ) (vs : List ℕ) → IsValue (m f vs)
+use Rattle.rules.specs.Promises.{RunInputs, AlwaysTrue, Promises}
 
 -- after n steps some row of the table covers the configuration, and the invariant is true
 pub record CoveredRun (s : System) (at : Standing) (m : Meaning) (starts inputs : List ℕ) (n : ℕ) : Type 0 where
@@ -30,7 +27,7 @@ pub record CoveredRun (s : System) (at : Standing) (m : Meaning) (starts inputs 
 abbrev pub Covered : Type 0
 Covered =
     (s : System) → Lawful s → Safe s (first_row s) → (limit : ℕ) (calls : List Call) (at : Standing) → ComesTo s limit calls at → waiting at + out at ≡ 0
-    → (m : Meaning) → IsSmall m → (starts inputs : List ℕ) (n : ℕ) → RunInputs s starts inputs n → CoveredRun s at m starts inputs n
+    → (m : Meaning) → IsPlant m → (starts inputs : List ℕ) (n : ℕ) → RunInputs s starts inputs n → CoveredRun s at m starts inputs n
 
 -- and so the invariant is always true, over every plant model
 abbrev pub Settles : Type 0
