@@ -1,6 +1,7 @@
 //! Tests of rows, candidates, forms, matching and safety: tables of cases with their exact answers.
 #![tactic(auto)]
 
+pub mod covering;
 #[cfg(test)]
 mod forming;
 #[cfg(test)]

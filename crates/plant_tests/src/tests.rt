@@ -1,6 +1,7 @@
 //! Each model's corners, and the layer over both.
 use crate::client::asked_twice;
 use crate::counted::{Counted, CountedOver};
+use crate::odd::Odd;
 use fault::{Fault, ModelFault};
 use plant::Model;
 use plant::affine::{Affine, Curve};
@@ -169,4 +170,12 @@ fn a_layer_answers_as_the_model_below_and_counts(rt: HostRuntime) {
     assert_eq!(rt; over.asked, 1);
     assert_eq!(rt; owner.asked, 3);
     assert_eq!(rt; owner.below.apply(1, &[5]), 50);
+}
+
+#[test]
+fn the_odd_model_answers_zero_at_every_symbol(rt: HostRuntime) {
+    let mut model = Odd;
+    assert_eq!(rt; model.apply(0, &[]), 0);
+    assert_eq!(rt; model.apply(31, &[1, 2, 3]), 0);
+    assert_eq!(rt; model.apply(255, &[1, 2, 3, 4]), 0);
 }
