@@ -10,8 +10,9 @@ pub mod listed;
 
 /// An interpretation of the symbols, which a model keeps for as long as it lives.
 ///
-/// By the rules a symbol takes at most three values. `apply` takes a longer list too and answers what the
-/// meaning says there: each model's definition says what that is.
+/// A sheet asks for symbols below 32 at no to three values, and there a meaning is a value: that is the law.
+/// `apply` takes other numbers and longer lists too, and answers what the meaning says there: each model's
+/// definition says what that is. Where nothing can be asked, a meaning may be anything.
 ///
 /// A layer over another model is a model too, by value or over a `&mut`. `lenders` names the loans that such
 /// a layer holds, outermost first, and no call changes them: so who lent a model below a layer knows, after a
