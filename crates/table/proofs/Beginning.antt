@@ -1,0 +1,124 @@
+-- An empty bank has room for row 0 and for the terms of all claims over it; and what the first row and its judgement come to.
+use Rattle.std.proofs.Common.{◌≡◌, ℕ, zero, suc, ◌+◌, ◌<◌, ◌≤◌, Bool, true, false, List, [], ◌∷◌, ◌++◌, map, length, get_or, Ok, Err, Result, ⊎_elim, refl, sym, ap, ◌∙◌, subst, append-nil, arith}
+use Rattle.std.specs.List.{ContainsAt as Has, AllByRecursion as All}
+use Rattle.std.proofs.ByRecursion.{All-append, all-has}
+use Rattle.std.proofs.lemmas.Bool.{leb-true}
+use Rattle.std.proofs.lemmas.List.{length-map, length-append}
+use Rattle.fault.specs.declared.TableFault.{TableFault}
+use Rattle.fault.specs.declared.TableFault.TheVariants.{BadMemory, UnsafeStart, NoSuchBranch, NotWaiting, NotOut, HeightAboveBound, NamesExhausted, TermsExhausted, Satisfiable, NoRenaming, UnsafeForm, RowLimit}
+use Rattle.sheet.specs.declared.syntax.Args.{Args}
+use Rattle.sheet.specs.declared.syntax.Args.TheVariants.{Zero, One, Two, Three}
+use Rattle.sheet.specs.declared.syntax.Equation.{Equation}
+use Rattle.sheet.specs.declared.syntax.Reading.{Reading}
+use Rattle.sheet.specs.declared.syntax.Start.{Start}
+use Rattle.sheet.specs.declared.syntax.Term.{Term as SheetTerm}
+use Rattle.sheet.specs.Grow.{grow}
+use Rattle.sheet.specs.Lawful.{Lawful}
+use Rattle.sheet.specs.Runs.{numbered}
+use Rattle.sheet.specs.System.{System}
+use Rattle.sheet.proofs.Fewness.{lawful_sheet, few_readings}
+use Rattle.sheet.proofs.Growing.{grow-length}
+use Rattle.terms.specs.Terms.{Term, name, constant, unary, binary, ternary}
+use Rattle.terms.specs.declared.TermRecord.{TermRecord}
+use Rattle.terms.specs.Bank.{Bank}
+use Rattle.terms.proofs.Filing.{bank_none}
+use Rattle.banks.specs.Room.{Throughout, HasAll, Roomy, Holding}
+use Rattle.forms.specs.Rows.{Row, start_term, start_of, first_row}
+use Rattle.forms.specs.Candidate.{no_term, applied, term_over, terms_over, condition_of, branch_answers}
+use Rattle.forms.specs.Counted.{sides_of, claim_terms}
+use Rattle.forms.specs.Safety.{claim_conditions, Safe, Unsafe}
+use Rattle.forms.proofs.Counting.{not-both}
+use Rattle.rows.specs.declared.row.RowRecord.{RowRecord}
+use Rattle.rows.specs.Records.{row_in}
+use Rattle.candidates.specs.Outcome.{Kept, FirstRefused, FirstRowMade, FirstRowCounted, Wanting}
+use Rattle.candidates.specs.Judged.{Judgeable, Judged}
+use Rattle.folding.specs.Matched.{Closed}
+use Rattle.table.specs.Offers.{Begun}
+use Rattle.table.proofs.Staying.{row_stays, inside_more, holding_kept}
+
+module _ {A : Type 0} where
+  has_head : (x : A) (xs : List A) → Has (x ∷ xs) x
+  has_head x xs = (0, omega arith, λ d. refl)
+
+  has_tail : (x y : A) (xs : List A) → Has xs y → Has (x ∷ xs) y
+  has_tail x y xs h = let lt = h.1 in (suc h.0, omega arith, λ d. h.2 d)
+
+  has_left : (xs ys : List A) (y : A) → Has xs y → Has (xs ++ ys) y
+  has_left [] ys y h = let lt = h.1 in absurd (omega arith)
+  has_left (x ∷ xs) ys y (zero, lt, at) = (0, omega arith, at)
+  has_left (x ∷ xs) ys y (suc k, lt, at) = has_tail x y (xs ++ ys) (has_left xs ys y (k, omega arith, λ d. at d))
+
+  has_right : (xs ys : List A) (y : A) → Has ys y → Has (xs ++ ys) y
+  has_right [] ys y h = h
+  has_right (x ∷ xs) ys y h = has_tail x y (xs ++ ys) (has_right xs ys y h)
+
+  -- each element of a list stands in a list that has all of them
+  all_stand : (xs ys : List A) → ((x : A) → Has xs x → Has ys x) → All (Has ys) xs
+  all_stand [] ys h = tt
+  all_stand (x ∷ xs) ys h = (h x (has_head x xs), all_stand xs ys (λ y at. h y (has_tail x y xs at)))
+
+  -- what is true of all, and past the end
+  all_get : (P : A → Type 0) (xs : List A) (d : A) → All P xs → P d → (i : ℕ) → P (get_or xs i d)
+  all_get P [] d h past i = past
+  all_get P (x ∷ xs) d h past zero = h.0
+  all_get P (x ∷ xs) d h past (suc i) = all_get P xs d h.1 past i
+
+  -- what was there before a list grew is there after
+  has_grown : {N : Type 0} (step : List A → N → A) (seen : List A) (xs : List N) (y : A) → Has seen y → Has (grow step seen xs) y
+  has_grown step seen [] y h = h
+  has_grown step seen (x ∷ xs) y h = has_grown step (seen ++ step seen x ∷ []) xs y (has_left seen (step seen x ∷ []) y h)
+
+-- starts have no subterms
+starts_throughout : (P : Term → Type 0) (ws : List Reading) → All P (map start_of ws) → All (Throughout P) (map start_of ws)
+starts_throughout P [] h = tt
+starts_throughout P (w ∷ ws) h = (one w.start h.0, starts_throughout P ws h.1)
+  where
+    one : (x : Start) → P (start_term x) → Throughout P (start_term x)
+    one (Start.Name n) p = p
+    one (Start.Constant f) p = p
+
+-- a list that has the terms of a sheet over a vector has their subterms too, if it has the vector's and a term for what is past the end
+module _ (P : Term → Type 0) (v : List Term) (past : P no_term) (vector : All (Throughout P) v) where
+  term_throughout : (seen : List Term) → All (Throughout P) seen → (x : SheetTerm) → P (term_over v [] seen x) → Throughout P (term_over v [] seen x)
+  term_throughout seen h (SheetTerm.Reading r) p = all_get (Throughout P) v no_term vector past r
+  term_throughout seen h (SheetTerm.Input i) p = p
+  term_throughout seen h (SheetTerm.Apply f Zero) p = p
+  term_throughout seen h (SheetTerm.Apply f (One a)) p = (p, all_get (Throughout P) seen no_term h past a)
+  term_throughout seen h (SheetTerm.Apply f (Two a b)) p = (p, all_get (Throughout P) seen no_term h past a, all_get (Throughout P) seen no_term h past b)
+  term_throughout seen h (SheetTerm.Apply f (Three a b c)) p = (p, all_get (Throughout P) seen no_term h past a, all_get (Throughout P) seen no_term h past b, all_get (Throughout P) seen no_term h past c)
+
+  terms_throughout : (seen : List Term) (xs : List SheetTerm) → All (Throughout P) seen → ((t : Term) → Has (grow (term_over v []) seen xs) t → P t) → All (Throughout P) (grow (term_over v []) seen xs)
+  terms_throughout seen [] h each = h
+  terms_throughout seen (x ∷ xs) h each =
+      let t : Term = term_over v [] seen x in
+      let p : P t = each t (has_grown (term_over v []) (seen ++ t ∷ []) xs t (has_right seen (t ∷ []) t (has_head t []))) in
+      terms_throughout (seen ++ t ∷ []) xs (All-append (Throughout P) seen (t ∷ []) h (term_throughout seen h x p, tt)) each
+
+  sides_throughout : (ts : List Term) → All (Throughout P) ts → (answers : List Bool) (k : ℕ) (es : List Equation) → All (Throughout P) (sides_of (numbered (condition_of ts answers) k es))
+  sides_throughout ts h answers k [] = tt
+  sides_throughout ts h answers k (e ∷ es) = (all_get (Throughout P) ts no_term h past e.left, (all_get (Throughout P) ts no_term h past e.right, sides_throughout ts h answers (suc k) es))
+
+module _ (s : System) (lawful : ∥ Lawful s ∥₁) where
+  abbrev vector : List Term
+  vector = (first_row s).vector
+
+  abbrev over : List Term
+  over = terms_over vector [] s.terms
+
+  abbrev all : List Term
+  all = no_term ∷ (vector ++ over)
+
+  -- row 0 and the terms of all claims over it have room
+  pub first_roomy : Roomy (vector ++ claim_terms s (first_row s))
+  first_roomy =
+      let P : Term → Type 0 = Has all in
+      let past : P no_term = has_head no_term (vector ++ over) in
+      let stands : All P vector = all_stand vector all (λ t h. has_tail no_term t (vector ++ over) (has_left vector over t h)) in
+      let first : All (Throughout P) vector = starts_throughout P s.readings stands in
+      let terms : All (Throughout P) over = terms_throughout P vector past first [] s.terms tt (λ t h. has_tail no_term t (vector ++ over) (has_right vector over t h)) in
+      let few_terms : length s.terms ≤ 64 = leb-true (length s.terms) 64 (lawful_sheet s lawful).few.terms in
+      let few : length vector ≤ 6 = omega (arith, length-map s.readings start_of, few_readings s lawful) in
+      let long = length-append vector over in
+      let none : List Term = [] in
+      let grown : length over ≡ length none + length s.terms = grow-length (term_over vector []) [] s.terms in
+      (all, All-append (Throughout P) vector (claim_terms s (first_row s)) first (sides_throughout P vector past first over terms (branch_answers (length s.claims) 0) 0 s.claims), omega arith)

@@ -1,0 +1,71 @@
+-- Whether the older row takes the form, from what building it and matching it answer.
+use Rattle.std.proofs.Common.{◌≡◌, ℕ, ◌≤◌, List, length, Some, None, Ok, Err, Option, Result, ⊎_elim, inl, inr, sym, ◌∙◌, subst, arith}
+use Rattle.fault.specs.declared.TableFault.{TableFault}
+use Rattle.fault.specs.declared.TableFault.TheVariants.{BadMemory, UnsafeStart, NoSuchBranch, NotWaiting, NotOut, HeightAboveBound, NamesExhausted, TermsExhausted, Satisfiable, NoRenaming, UnsafeForm, RowLimit}
+use Rattle.sheet.specs.System.{System}
+use Rattle.terms.specs.Terms.{Term}
+use Rattle.terms.specs.declared.TermRecord.{TermRecord}
+use Rattle.terms.specs.Bank.{Extends, Stays}
+use Rattle.terms.proofs.Filing.{extends_more}
+use Rattle.banks.specs.Room.{Holding}
+use Rattle.forms.specs.Rows.{Row}
+use Rattle.rows.specs.declared.row.RowRecord.{RowRecord}
+use Rattle.rows.specs.Records.{row_in}
+use Rattle.candidates.specs.Outcome.{Kept}
+use Rattle.folding.specs.declared.renaming.Renaming.{Renaming}
+use Rattle.folding.specs.Matched.{Closed, Matched, sends}
+use Rattle.folding.specs.Matched as Matching
+use Rattle.table.specs.Offers.{Workable, Comparable, BuiltAs, Covered}
+use Rattle.table.proofs.Staying.{row_stays, inside_more, bank_stays, kept_restored}
+
+-- what building is refused for, covering is refused for
+pub build_uncovered : (s : System) (row : Row) (number h : ℕ) (older : Row) (seen : List Term) (rs' : List TermRecord) (n' : ℕ) (e : TableFault) → BuiltAs s row number h seen rs' n' (Err e) → Covered s row number older h seen (Err e)
+build_uncovered s row number h older seen rs' n' BadMemory b = b
+build_uncovered s row number h older seen rs' n' UnsafeStart b = b
+build_uncovered s row number h older seen rs' n' NoSuchBranch b = b
+build_uncovered s row number h older seen rs' n' NotWaiting b = b
+build_uncovered s row number h older seen rs' n' NotOut b = b
+build_uncovered s row number h older seen rs' n' HeightAboveBound b = b
+build_uncovered s row number h older seen rs' n' NamesExhausted b = b
+build_uncovered s row number h older seen rs' n' TermsExhausted b = inl b
+build_uncovered s row number h older seen rs' n' Satisfiable b = b
+build_uncovered s row number h older seen rs' n' NoRenaming b = absurd b
+build_uncovered s row number h older seen rs' n' UnsafeForm b = b
+build_uncovered s row number h older seen rs' n' RowLimit b = b
+
+module _ (s : System) (rs rs₁ : List TermRecord) (n n₁ : ℕ) (r o form : RowRecord) (number h : ℕ) (labels : List ℕ) (seen : List Term) where
+  module _ (work : Workable s rs n r number labels) (standing : Comparable s rs n o) (e : Extends rs n rs₁ n₁) (long : length rs₁ ≡ length rs) (built : BuiltAs s (row_in s rs r) number h seen rs₁ n₁ (Ok form)) where
+    same : row_in s rs₁ o ≡ row_in s rs o
+    same = row_stays s rs rs₁ n 16 o e.stays standing.inside
+
+    -- the two rows can be compared
+    comparable : Matching.Comparable s rs₁ n₁ o form labels
+    comparable =
+        let long' : length rs₁ ≡ 512 = long ∙ work.sound.long in
+        record {
+          older = record { bank = e.bank; long = long'; row = inside_more s n n₁ 16 16 o e.more (omega arith) standing.inside };
+          form = record { bank = e.bank; long = long'; row = built.3.inside };
+          labelled = work.labelled;
+          closed = subst Closed (sym same) standing.closed;
+        }
+
+    covered_as : (a : Result Unit TableFault) → Covered s (row_in s rs r) number (row_in s rs₁ o) h seen a → Covered s (row_in s rs r) number (row_in s rs o) h seen a
+    covered_as a c = subst (λ (x : Row). Covered s (row_in s rs r) number x h seen a) same c
+
+    pub taken : (found : Renaming) → Matched s rs₁ n₁ o form labels (Ok (Some found)) → Covered s (row_in s rs r) number (row_in s rs o) h seen (Ok tt)
+    taken found m = covered_as (Ok tt) (row_in s rs₁ form, built.0, built.1, λ to fits. m.1 to fits built.0 built.2, (sends found, m.2))
+
+    pub untaken : Matched s rs₁ n₁ o form labels (Ok None) → Covered s (row_in s rs r) number (row_in s rs o) h seen (Err NoRenaming)
+    untaken m = covered_as (Err NoRenaming) (row_in s rs₁ form, built.0, built.1, λ to fits. m.1 to fits built.0 built.2, m.2)
+
+    pub unmatched : (fault : TableFault) → Matched s rs₁ n₁ o form labels (Err fault) → Covered s (row_in s rs r) number (row_in s rs o) h seen (Err fault)
+    unmatched fault m =
+        ⊎_elim (λ no'. absurd (no'.1 comparable))
+        (λ no'. subst (λ (f : TableFault). Covered s (row_in s rs r) number (row_in s rs o) h seen (Err f)) (sym no'.0)
+          (covered_as (Err TermsExhausted) (inr (row_in s rs₁ form, built.0, built.1, (no'.2.to, no'.2.fits, no'.2.crowded built.0 built.2))))) m
+
+-- the count is restored after building and matching
+pub cover_kept : (rs rs₁ rs₂ : List TermRecord) (n n₁ back : ℕ) → Extends rs n rs₁ n₁ → length rs₂ ≡ length rs₁ → Stays n₁ rs₁ rs₂ → back ≡ n → Kept rs n rs₂ back
+cover_kept rs rs₁ rs₂ n n₁ back e long stays restored =
+    let f : Extends rs₁ n₁ rs₂ n₁ = record { bank = bank_stays rs₁ rs₂ n₁ long stays e.bank; more = omega arith; stays = stays } in
+    kept_restored rs rs₂ n n₁ back (extends_more rs rs₁ rs₂ n n₁ n₁ e f) restored
