@@ -22,7 +22,8 @@ use Rattle.terms.specs.Terms.{Term, name, constant, unary, binary, ternary}
 use Rattle.terms.specs.declared.TermRecord.{TermRecord}
 use Rattle.terms.specs.Bank.{Bank}
 use Rattle.terms.proofs.Filing.{bank_none}
-use Rattle.banks.specs.Room.{Throughout, HasAll, Roomy, Holding}
+use Rattle.banks.specs.Room.{Throughout, Roomy, Crowded, Holding}
+use Rattle.banks.proofs.Gaining.{all_left}
 use Rattle.forms.specs.Rows.{Row, start_term, start_of, first_row}
 use Rattle.forms.specs.Candidate.{no_term, applied, term_over, terms_over, condition_of, branch_answers}
 use Rattle.forms.specs.Counted.{sides_of, claim_terms}
@@ -30,7 +31,7 @@ use Rattle.forms.specs.Safety.{claim_conditions, Safe, Unsafe}
 use Rattle.forms.proofs.Counting.{not-both}
 use Rattle.rows.specs.declared.row.RowRecord.{RowRecord}
 use Rattle.rows.specs.Records.{row_in}
-use Rattle.candidates.specs.Outcome.{Kept, FirstRefused, FirstRowMade, FirstRowCounted, Wanting}
+use Rattle.candidates.specs.Outcome.{Kept, FirstRowMade, FirstRowCounted}
 use Rattle.candidates.specs.Judged.{Judgeable, Judged}
 use Rattle.folding.specs.Matched.{Closed}
 use Rattle.table.specs.Offers.{Begun}
@@ -122,3 +123,49 @@ module _ (s : System) (lawful : ∥ Lawful s ∥₁) where
       let none : List Term = [] in
       let grown : length over ≡ length none + length s.terms = grow-length (term_over vector []) [] s.terms in
       (all, All-append (Throughout P) vector (claim_terms s (first_row s)) first (sides_throughout P vector past first over terms (branch_answers (length s.claims) 0) 0 s.claims), omega arith)
+
+  -- and row 0 alone has
+  row_roomy : Roomy (vector ++ sides_of [])
+  row_roomy =
+      let P : Term → Type 0 = Throughout (Has first_roomy.0) in
+      (first_roomy.0, All-append P vector (sides_of []) (all_left P vector (claim_terms s (first_row s)) first_roomy.1) tt, first_roomy.2)
+
+  -- an empty bank holds nothing
+  holding_none : (rs : List TermRecord) (n : ℕ) → n ≡ 0 → Holding rs n []
+  holding_none rs n is =
+      let bank : Bank rs n = subst (Bank rs) (sym is) (bank_none rs) in
+      record { bank = bank; has = tt; only = λ all h k p. absurd (omega arith) }
+
+  module _ (rs rs₁ : List TermRecord) (n n₁ : ℕ) (empty : n ≡ 0) (long : length rs ≡ 512) where
+    -- nothing refuses row 0 in an empty bank
+    pub row_unrefused : (e : TableFault) → FirstRowMade s rs n rs₁ n₁ (Err e) → ((seen : List Term) → Holding rs n seen → FirstRowCounted s seen rs₁ n₁ (Err e)) → ⊥
+    row_unrefused BadMemory m counted = m.0 long (subst (Bank rs) (sym empty) (bank_none rs))
+    row_unrefused UnsafeStart m counted = m.0
+    row_unrefused NoSuchBranch m counted = m.0
+    row_unrefused NotWaiting m counted = m.0
+    row_unrefused NotOut m counted = m.0
+    row_unrefused HeightAboveBound m counted = m.0
+    row_unrefused NamesExhausted m counted = m.0
+    row_unrefused TermsExhausted m counted = not-both (vector ++ sides_of []) row_roomy (counted [] (holding_none rs n empty))
+    row_unrefused Satisfiable m counted = m.0
+    row_unrefused NoRenaming m counted = m.0
+    row_unrefused UnsafeForm m counted = m.0
+    row_unrefused RowLimit m counted = m.0
+
+    module _ (r : RowRecord) (labels : List ℕ) (m : FirstRowMade s rs n rs₁ n₁ (Ok r)) (counted : (seen : List Term) → Holding rs n seen → FirstRowCounted s seen rs₁ n₁ (Ok r)) where
+      -- the bank holds the row's vector
+      held : Holding rs₁ n₁ vector
+      held = subst (Holding rs₁ n₁) (append-nil vector) (counted [] (holding_none rs n empty)).1
+
+      -- nor is it refused to judge it
+      pub row_judged : length rs₁ ≡ length rs → length labels ≡ 512 → (e : TableFault) → Judged s rs₁ n₁ r labels (Err e) → ⊥
+      row_judged longer labelled e j =
+          let sound : Judgeable s rs₁ n₁ r labels = record { sound = record { bank = m.2.extends.bank; long = longer ∙ long; row = m.3.inside }; labelled = omega arith } in
+          let many : (seen : List Term) → Holding rs₁ n₁ seen → Crowded (seen ++ claim_terms s (row_in s rs₁ r)) = ⊎_elim (λ no'. absurd (no'.1 sound)) (λ no'. no'.2) j in
+          not-both (vector ++ claim_terms s (first_row s)) first_roomy (subst (λ (x : Row). Crowded (vector ++ claim_terms s x)) m.3.stands (many vector held))
+
+      pub begun : (safe : Bool) → Judged s rs₁ n₁ r labels (Ok safe) → safe ≡ true → (rs₂ : List TermRecord) (n₂ : ℕ) → Kept rs₁ n₁ rs₂ n₂ → Begun s rs₂ n₂ (Ok r)
+      begun safe j is rs₂ n₂ kept =
+          let same : row_in s rs₂ r ≡ first_row s = row_stays s rs₁ rs₂ n₁ 16 r kept.records m.3.inside ∙ m.3.stands in
+          let closed : Closed (row_in s rs₂ r) = subst Closed (sym same) tt in
+          (same, subst (Safe s) m.3.stands (j.1.decided.0 is), holding_kept rs₁ rs₂ n₁ n₂ vector held kept, record { inside = inside_more s n₁ n₂ 16 16 r (omega (arith, kept.count)) (omega arith) m.3.inside; closed = closed })

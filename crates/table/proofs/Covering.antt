@@ -13,7 +13,7 @@ use Rattle.rows.specs.declared.row.RowRecord.{RowRecord}
 use Rattle.rows.specs.Records.{row_in}
 use Rattle.candidates.specs.Outcome.{Kept}
 use Rattle.folding.specs.declared.renaming.Renaming.{Renaming}
-use Rattle.folding.specs.Matched.{Closed, Matched, sends}
+use Rattle.folding.specs.Matched.{Closed, Found, Matched, sends}
 use Rattle.folding.specs.Matched as Matching
 use Rattle.table.specs.Offers.{Workable, Comparable, BuiltAs, Covered}
 use Rattle.table.proofs.Staying.{row_stays, inside_more, bank_stays, kept_restored}
@@ -52,11 +52,15 @@ module _ (s : System) (rs rs₁ : List TermRecord) (n n₁ : ℕ) (r o form : Ro
     covered_as : (a : Result Unit TableFault) → Covered s (row_in s rs r) number (row_in s rs₁ o) h seen a → Covered s (row_in s rs r) number (row_in s rs o) h seen a
     covered_as a c = subst (λ (x : Row). Covered s (row_in s rs r) number x h seen a) same c
 
-    pub taken : (found : Renaming) → Matched s rs₁ n₁ o form labels (Ok (Some found)) → Covered s (row_in s rs r) number (row_in s rs o) h seen (Ok tt)
-    taken found m = covered_as (Ok tt) (row_in s rs₁ form, built.0, built.1, λ to fits. m.1 to fits built.0 built.2, (sends found, m.2))
+    abbrev FoundHere : Option Renaming → Type 0
+    FoundHere found = Found (row_in s rs₁ o) (row_in s rs₁ form) found
 
-    pub untaken : Matched s rs₁ n₁ o form labels (Ok None) → Covered s (row_in s rs r) number (row_in s rs o) h seen (Err NoRenaming)
-    untaken m = covered_as (Err NoRenaming) (row_in s rs₁ form, built.0, built.1, λ to fits. m.1 to fits built.0 built.2, m.2)
+    module _ (found : Option Renaming) (m : Matched s rs₁ n₁ o form labels (Ok found)) where
+      pub taken : (by : Renaming) → found ≡ Some by → Covered s (row_in s rs r) number (row_in s rs o) h seen (Ok tt)
+      taken by is = covered_as (Ok tt) (row_in s rs₁ form, built.0, built.1, λ to fits. m.1 to fits built.0 built.2, (sends by, subst FoundHere is m.2))
+
+      pub untaken : found ≡ None → Covered s (row_in s rs r) number (row_in s rs o) h seen (Err NoRenaming)
+      untaken is = covered_as (Err NoRenaming) (row_in s rs₁ form, built.0, built.1, λ to fits. m.1 to fits built.0 built.2, subst FoundHere is m.2)
 
     pub unmatched : (fault : TableFault) → Matched s rs₁ n₁ o form labels (Err fault) → Covered s (row_in s rs r) number (row_in s rs o) h seen (Err fault)
     unmatched fault m =

@@ -3,6 +3,7 @@ use Rattle.std.proofs.Common.{◌≡◌, ℕ, ◌<◌, ◌≤◌, Bool, List, []
 use Rattle.std.specs.List.{AllByRecursion, ContainsAt as Has}
 use Rattle.sheet.specs.System.{System}
 use Rattle.terms.specs.Terms.{Term, height, name_set, Literal}
+use Rattle.terms.specs.declared.Count.{Count}
 use Rattle.terms.specs.declared.TermRecord.{TermRecord}
 use Rattle.terms.specs.Bank.{Fit, Bank, Extends, Stays}
 use Rattle.terms.proofs.Filing.{bank_less, extends_none, extends_more}
@@ -73,3 +74,11 @@ extends_kept rs rs' n n' bank kept = subst (Extends rs n rs') (sym kept.count) (
 -- where the count is again what it was, a bank that grew is kept
 pub kept_restored : (rs rs' : List TermRecord) (n n' back : ℕ) → Extends rs n rs' n' → back ≡ n → Kept rs n rs' back
 kept_restored rs rs' n n' back e restored = record { count = restored; records = e.stays; bank = λ b. bank_less rs' n' n e.more e.bank }
+
+-- a count that is lent on is the same count
+module _ (rs : List TermRecord) (lent count : Count) (is : lent ≡ count) where
+  pub holding_lent : (ts : List Term) → Holding rs count.terms ts → Holding rs lent.terms ts
+  holding_lent ts h = subst (λ (k : Count). Holding rs k.terms ts) (sym is) h
+
+  pub extends_lent : (rs' : List TermRecord) (n' : ℕ) → Extends rs lent.terms rs' n' → Extends rs count.terms rs' n'
+  extends_lent rs' n' e = subst (λ (k : Count). Extends rs k.terms rs' n') is e
