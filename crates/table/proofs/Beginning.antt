@@ -1,12 +1,11 @@
 -- An empty bank has room for row 0 and for the terms of all claims over it; and what the first row and its judgement come to.
-use Rattle.std.proofs.Common.{◌≡◌, ℕ, zero, suc, ◌+◌, ◌<◌, ◌≤◌, Bool, true, false, List, [], ◌∷◌, ◌++◌, map, length, get_or, Ok, Err, Result, ⊎_elim, refl, sym, ap, ◌∙◌, subst, append-nil, arith}
+use Rattle.std.proofs.Common.{◌≡◌, ℕ, zero, suc, ◌+◌, ◌≤◌, Bool, true, List, [], ◌∷◌, ◌++◌, map, length, get_or, Ok, Err, ⊎_elim, refl, sym, ◌∙◌, subst, append-nil, arith}
 use Rattle.std.specs.List.{ContainsAt as Has, AllByRecursion as All}
-use Rattle.std.proofs.ByRecursion.{All-append, all-has}
+use Rattle.std.proofs.ByRecursion.{All-append}
 use Rattle.std.proofs.lemmas.Bool.{leb-true}
 use Rattle.std.proofs.lemmas.List.{length-map, length-append}
 use Rattle.fault.specs.declared.TableFault.{TableFault}
 use Rattle.fault.specs.declared.TableFault.TheVariants.{BadMemory, UnsafeStart, NoSuchBranch, NotWaiting, NotOut, HeightAboveBound, NamesExhausted, TermsExhausted, Satisfiable, NoRenaming, UnsafeForm, RowLimit}
-use Rattle.sheet.specs.declared.syntax.Args.{Args}
 use Rattle.sheet.specs.declared.syntax.Args.TheVariants.{Zero, One, Two, Three}
 use Rattle.sheet.specs.declared.syntax.Equation.{Equation}
 use Rattle.sheet.specs.declared.syntax.Reading.{Reading}
@@ -18,16 +17,16 @@ use Rattle.sheet.specs.Runs.{numbered}
 use Rattle.sheet.specs.System.{System}
 use Rattle.sheet.proofs.Fewness.{lawful_sheet, few_readings}
 use Rattle.sheet.proofs.Growing.{grow-length}
-use Rattle.terms.specs.Terms.{Term, name, constant, unary, binary, ternary}
+use Rattle.terms.specs.Terms.{Term}
 use Rattle.terms.specs.declared.TermRecord.{TermRecord}
 use Rattle.terms.specs.Bank.{Bank}
 use Rattle.terms.proofs.Filing.{bank_none}
 use Rattle.banks.specs.Room.{Throughout, Roomy, Crowded, Holding}
 use Rattle.banks.proofs.Gaining.{all_left}
 use Rattle.forms.specs.Rows.{Row, start_term, start_of, first_row}
-use Rattle.forms.specs.Candidate.{no_term, applied, term_over, terms_over, condition_of, branch_answers}
+use Rattle.forms.specs.Candidate.{no_term, term_over, terms_over, condition_of, branch_answers}
 use Rattle.forms.specs.Counted.{sides_of, claim_terms}
-use Rattle.forms.specs.Safety.{claim_conditions, Safe, Unsafe}
+use Rattle.forms.specs.Safety.{Safe}
 use Rattle.forms.proofs.Counting.{not-both}
 use Rattle.rows.specs.declared.row.RowRecord.{RowRecord}
 use Rattle.rows.specs.Records.{row_in}
@@ -168,4 +167,4 @@ module _ (s : System) (lawful : ∥ Lawful s ∥₁) where
       begun safe j is rs₂ n₂ kept =
           let same : row_in s rs₂ r ≡ first_row s = row_stays s rs₁ rs₂ n₁ 16 r kept.records m.3.inside ∙ m.3.stands in
           let closed : Closed (row_in s rs₂ r) = subst Closed (sym same) tt in
-          (same, subst (Safe s) m.3.stands (j.1.decided.0 is), holding_kept rs₁ rs₂ n₁ n₂ vector held kept, record { inside = inside_more s n₁ n₂ 16 16 r (omega (arith, kept.count)) (omega arith) m.3.inside; closed = closed })
+          (same, subst (Safe s) m.3.stands (j.1.decided.0 is), holding_kept rs₁ rs₂ n₁ n₂ vector held kept, record { inside = inside_more s n₁ n₂ 16 r (omega (arith, kept.count)) m.3.inside; closed = closed })

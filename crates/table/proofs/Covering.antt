@@ -1,37 +1,19 @@
 -- Whether the older row takes the form, from what building it and matching it answer.
-use Rattle.std.proofs.Common.{◌≡◌, ℕ, ◌≤◌, List, length, Some, None, Ok, Err, Option, Result, ⊎_elim, inl, inr, sym, ◌∙◌, subst, arith}
+use Rattle.std.proofs.Common.{◌≡◌, ℕ, List, length, Some, None, Ok, Err, Option, Result, ⊎_elim, inr, sym, ◌∙◌, subst}
 use Rattle.fault.specs.declared.TableFault.{TableFault}
-use Rattle.fault.specs.declared.TableFault.TheVariants.{BadMemory, UnsafeStart, NoSuchBranch, NotWaiting, NotOut, HeightAboveBound, NamesExhausted, TermsExhausted, Satisfiable, NoRenaming, UnsafeForm, RowLimit}
+use Rattle.fault.specs.declared.TableFault.TheVariants.{TermsExhausted, NoRenaming}
 use Rattle.sheet.specs.System.{System}
 use Rattle.terms.specs.Terms.{Term}
 use Rattle.terms.specs.declared.TermRecord.{TermRecord}
-use Rattle.terms.specs.Bank.{Extends, Stays}
-use Rattle.terms.proofs.Filing.{extends_more}
-use Rattle.banks.specs.Room.{Holding}
+use Rattle.terms.specs.Bank.{Extends}
 use Rattle.forms.specs.Rows.{Row}
 use Rattle.rows.specs.declared.row.RowRecord.{RowRecord}
 use Rattle.rows.specs.Records.{row_in}
-use Rattle.candidates.specs.Outcome.{Kept}
 use Rattle.folding.specs.declared.renaming.Renaming.{Renaming}
 use Rattle.folding.specs.Matched.{Closed, Found, Matched, sends}
 use Rattle.folding.specs.Matched as Matching
 use Rattle.table.specs.Offers.{Workable, Comparable, BuiltAs, Covered}
-use Rattle.table.proofs.Staying.{row_stays, inside_more, bank_stays, kept_restored}
-
--- what building is refused for, covering is refused for
-pub build_uncovered : (s : System) (row : Row) (number h : ℕ) (older : Row) (seen : List Term) (rs' : List TermRecord) (n' : ℕ) (e : TableFault) → BuiltAs s row number h seen rs' n' (Err e) → Covered s row number older h seen (Err e)
-build_uncovered s row number h older seen rs' n' BadMemory b = b
-build_uncovered s row number h older seen rs' n' UnsafeStart b = b
-build_uncovered s row number h older seen rs' n' NoSuchBranch b = b
-build_uncovered s row number h older seen rs' n' NotWaiting b = b
-build_uncovered s row number h older seen rs' n' NotOut b = b
-build_uncovered s row number h older seen rs' n' HeightAboveBound b = b
-build_uncovered s row number h older seen rs' n' NamesExhausted b = b
-build_uncovered s row number h older seen rs' n' TermsExhausted b = inl b
-build_uncovered s row number h older seen rs' n' Satisfiable b = b
-build_uncovered s row number h older seen rs' n' NoRenaming b = absurd b
-build_uncovered s row number h older seen rs' n' UnsafeForm b = b
-build_uncovered s row number h older seen rs' n' RowLimit b = b
+use Rattle.table.proofs.Staying.{row_stays, inside_more}
 
 module _ (s : System) (rs rs₁ : List TermRecord) (n n₁ : ℕ) (r o form : RowRecord) (number h : ℕ) (labels : List ℕ) (seen : List Term) where
   module _ (work : Workable s rs n r number labels) (standing : Comparable s rs n o) (e : Extends rs n rs₁ n₁) (long : length rs₁ ≡ length rs) (built : BuiltAs s (row_in s rs r) number h seen rs₁ n₁ (Ok form)) where
@@ -43,7 +25,7 @@ module _ (s : System) (rs rs₁ : List TermRecord) (n n₁ : ℕ) (r o form : Ro
     comparable =
         let long' : length rs₁ ≡ 512 = long ∙ work.sound.long in
         record {
-          older = record { bank = e.bank; long = long'; row = inside_more s n n₁ 16 16 o e.more (omega arith) standing.inside };
+          older = record { bank = e.bank; long = long'; row = inside_more s n n₁ 16 o e.more standing.inside };
           form = record { bank = e.bank; long = long'; row = built.3.inside };
           labelled = work.labelled;
           closed = subst Closed (sym same) standing.closed;
@@ -66,10 +48,4 @@ module _ (s : System) (rs rs₁ : List TermRecord) (n n₁ : ℕ) (r o form : Ro
     unmatched fault m =
         ⊎_elim (λ no'. absurd (no'.1 comparable))
         (λ no'. subst (λ (f : TableFault). Covered s (row_in s rs r) number (row_in s rs o) h seen (Err f)) (sym no'.0)
-          (covered_as (Err TermsExhausted) (inr (row_in s rs₁ form, built.0, built.1, (no'.2.to, no'.2.fits, no'.2.crowded built.0 built.2))))) m
-
--- the count is restored after building and matching
-pub cover_kept : (rs rs₁ rs₂ : List TermRecord) (n n₁ back : ℕ) → Extends rs n rs₁ n₁ → length rs₂ ≡ length rs₁ → Stays n₁ rs₁ rs₂ → back ≡ n → Kept rs n rs₂ back
-cover_kept rs rs₁ rs₂ n n₁ back e long stays restored =
-    let f : Extends rs₁ n₁ rs₂ n₁ = record { bank = bank_stays rs₁ rs₂ n₁ long stays e.bank; more = omega arith; stays = stays } in
-    kept_restored rs rs₂ n n₁ back (extends_more rs rs₁ rs₂ n n₁ n₁ e f) restored
+        (covered_as (Err TermsExhausted) (inr (row_in s rs₁ form, built.0, built.1, (no'.2.to, no'.2.fits, no'.2.crowded built.0 built.2))))) m

@@ -1,11 +1,11 @@
 -- By how many joins a branch's conditions are impossible, from what deciding them answers.
-use Rattle.std.proofs.Common.{◌≡◌, ℕ, ◌-◌, ◌<◌, ◌≤◌, Bool, true, List, [], ◌∷◌, ◌++◌, length, MatchBool, Ok, subst, arith}
+use Rattle.std.proofs.Common.{◌≡◌, ℕ, ◌-◌, ◌<◌, ◌≤◌, Bool, true, List, [], ◌∷◌, ◌++◌, MatchBool, Ok, subst, arith}
 use Rattle.sheet.specs.System.{System}
 use Rattle.terms.specs.Terms.{Term, Sat}
 use Rattle.terms.specs.declared.Condition.{Condition}
 use Rattle.terms.specs.declared.TermRecord.{TermRecord}
 use Rattle.terms.specs.Bank.{term_at}
-use Rattle.banks.specs.Room.{Holding, HasAll}
+use Rattle.banks.specs.Room.{Holding}
 use Rattle.banks.proofs.Gaining.{places_enough}
 use Rattle.closure.specs.Labels.{literals, Ready, Answered}
 use Rattle.forms.specs.Rows.{Row}

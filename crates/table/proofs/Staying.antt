@@ -1,12 +1,11 @@
 -- Rows, and the terms that a bank holds, stay while the bank grows and while working terms leave it again.
-use Rattle.std.proofs.Common.{◌≡◌, ℕ, ◌<◌, ◌≤◌, Bool, List, [], ◌∷◌, length, take, refl, sym, ap, ap₂, ◌∙◌, subst, arith}
+use Rattle.std.proofs.Common.{◌≡◌, ℕ, ◌<◌, ◌≤◌, Bool, List, [], ◌∷◌, length, take, sym, ap₂, subst, arith}
 use Rattle.std.specs.List.{AllByRecursion, ContainsAt as Has}
 use Rattle.sheet.specs.System.{System}
-use Rattle.terms.specs.Terms.{Term, height, name_set, Literal}
+use Rattle.terms.specs.Terms.{Term, Literal}
 use Rattle.terms.specs.declared.Count.{Count}
 use Rattle.terms.specs.declared.TermRecord.{TermRecord}
-use Rattle.terms.specs.Bank.{Fit, Bank, Extends, Stays}
-use Rattle.terms.proofs.Filing.{bank_less, extends_none, extends_more}
+use Rattle.terms.specs.Bank.{Bank, Extends, Stays}
 use Rattle.banks.specs.Room.{Holding, Held}
 use Rattle.banks.proofs.Gaining.{held_later}
 use Rattle.forms.specs.Rows.{Row}
@@ -30,13 +29,13 @@ row_stays s rs rs' n most r stays i =
 less : (a n m : ℕ) → n ≤ m → a < n → a < m
 less a n m h p = omega arith
 
--- a row stays within a bank that grows, and within a greater number of conditions
-pub inside_more : (s : System) (n m most more : ℕ) (r : RowRecord) → n ≤ m → most ≤ more → Inside s n most r → Inside s m more r
-inside_more s n m most more r h wider i =
+-- a row stays within a bank that grows
+pub inside_more : (s : System) (n m most : ℕ) (r : RowRecord) → n ≤ m → Inside s n most r → Inside s m most r
+inside_more s n m most r h i =
     record {
       bits = i.bits;
       readings = i.readings;
-      few = omega (arith, i.few);
+      few = i.few;
       stored = i.stored;
       vector = λ k p. less _ n m h (i.vector k p);
       conditions = record { lefts = λ k p. less _ n m h (i.conditions.lefts k p); rights = λ k p. less _ n m h (i.conditions.rights k p) };
@@ -46,34 +45,15 @@ held_all : (rs rs' : List TermRecord) (n n' : ℕ) → Extends rs n rs' n' → (
 held_all rs rs' n n' e [] h = tt
 held_all rs rs' n n' e (t ∷ ts) h = (held_later rs rs' n n' e t h.0, held_all rs rs' n n' e ts h.1)
 
--- a bank is one still where its records stay
-pub bank_stays : (rs rs' : List TermRecord) (n : ℕ) → length rs' ≡ length rs → Stays n rs rs' → Bank rs n → Bank rs' n
-bank_stays rs rs' n long stays b =
-    record {
-      ordered = record { inside = omega (arith, b.ordered.inside); fit = λ i p. subst (λ (x : TermRecord). Fit i x.node) (sym (stays i p).0) (b.ordered.fit i p) };
-      few = b.few;
-      once = λ i j p q e. b.once i j p q (sym (stays i p).1 ∙ (e ∙ (stays j q).1));
-      heights = λ i p. ap (λ (x : TermRecord). x.height) (stays i p).0 ∙ (b.heights i p ∙ ap height (sym (stays i p).1));
-      names = λ i p. ap (λ (x : TermRecord). x.names) (stays i p).0 ∙ (b.names i p ∙ ap name_set (sym (stays i p).1));
-    }
-
 -- the bank still holds the same terms
 pub holding_stays : (rs rs' : List TermRecord) (n : ℕ) (ts : List Term) → Holding rs n ts → Bank rs' n → Stays n rs rs' → Holding rs' n ts
 holding_stays rs rs' n ts h bank stays =
     let e : Extends rs n rs' n = record { bank = bank; more = omega arith; stays = stays } in
     record { bank = bank; has = held_all rs rs' n n e ts h.has; only = λ all k i p. subst (λ (t : Term). Has all t) (sym (stays i p).1) (h.only all k i p) }
 
--- the same where the count is kept by an equation
+-- the same where the count is said to be as it was
 pub holding_kept : (rs rs' : List TermRecord) (n n' : ℕ) (ts : List Term) → Holding rs n ts → Kept rs n rs' n' → Holding rs' n' ts
 holding_kept rs rs' n n' ts h kept = subst (λ (m : ℕ). Holding rs' m ts) (sym kept.count) (holding_stays rs rs' n ts h (kept.bank h.bank) kept.records)
-
--- a bank that is kept is extended by nothing
-pub extends_kept : (rs rs' : List TermRecord) (n n' : ℕ) → Bank rs n → Kept rs n rs' n' → Extends rs n rs' n'
-extends_kept rs rs' n n' bank kept = subst (Extends rs n rs') (sym kept.count) (record { bank = kept.bank bank; more = omega arith; stays = kept.records })
-
--- where the count is again what it was, a bank that grew is kept
-pub kept_restored : (rs rs' : List TermRecord) (n n' back : ℕ) → Extends rs n rs' n' → back ≡ n → Kept rs n rs' back
-kept_restored rs rs' n n' back e restored = record { count = restored; records = e.stays; bank = λ b. bank_less rs' n' n e.more e.bank }
 
 -- a count that is lent on is the same count
 module _ (rs : List TermRecord) (lent count : Count) (is : lent ≡ count) where

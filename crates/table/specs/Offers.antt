@@ -56,7 +56,7 @@ Covered s row number older h seen (Err NamesExhausted) = BuildsFrom s row number
 Covered s row number older h seen (Err TermsExhausted) =
     BuildsFrom s row number h seen crowded
     ⊎ ((form : Row) × (seen' : List Term) × BuildsFrom s row number h seen (made form seen')
-       × ((to : ℕ → ℕ) × FitsVector to older form × Crowded (seen' ++ renamed_sides to older)))
+    × ((to : ℕ → ℕ) × FitsVector to older form × Crowded (seen' ++ renamed_sides to older)))
 Covered s row number older h seen (Err NoRenaming) =
     (form : Row) × (seen' : List Term) × BuildsFrom s row number h seen (made form seen')
     × ((to : ℕ → ℕ) → FitsVector to older form → Roomy (seen' ++ renamed_sides to older)) × (Takes older form → ⊥)

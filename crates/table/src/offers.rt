@@ -76,7 +76,7 @@ pub(crate) fn cover(
     requires older { Comparable (sheet_of sheet.now) bank.old count.old.terms older.now }
     ensures answer { (seen : List Term) → Holding bank.old count.old.terms seen
         → Covered (sheet_of sheet.now) (row_in (sheet_of sheet.now) bank.old row.now) number
-          (row_in (sheet_of sheet.now) bank.old older.now) height seen result }
+        (row_in (sheet_of sheet.now) bank.old older.now) height seen result }
     ensures kept { Kept bank.old count.old.terms bank.new count.new.terms }
 {
     let guard = CountGuard::new(&mut *count);

@@ -1,4 +1,3 @@
-use Rattle.std.proofs.Common.{sym}
 use Rattle.std.proofs.lemmas.Result.{err_from_is_err_and}
 use Rattle.sheet.specs.View.{sheet_of}
 use Rattle.table.proofs.Covering.{taken, untaken, unmatched}
