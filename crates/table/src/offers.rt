@@ -29,7 +29,8 @@ pub(crate) fn refute(
 ) -> Result<u16, TableFault>
     requires { Workable (sheet_of sheet.now) bank.old count.old.terms row.now number labels.old }
     ensures answer { (seen : List Term) → Holding bank.old count.old.terms seen
-        → Refuted (sheet_of sheet.now) (row_in (sheet_of sheet.now) bank.old row.now) number seen result }
+        → Refuted (sheet_of sheet.now) (row_in (sheet_of sheet.now) bank.old row.now) number
+        seen result }
     ensures kept { Kept bank.old count.old.terms bank.new count.new.terms }
 {
     let guard = CountGuard::new(&mut *count);
@@ -54,7 +55,8 @@ fn build(
 ) -> Result<RowRecord, TableFault>
     requires { Workable (sheet_of sheet.now) bank.old count.old.terms row.now number labels.now }
     ensures built { (seen : List Term) → Holding bank.old count.old.terms seen
-        → BuiltAs (sheet_of sheet.now) (row_in (sheet_of sheet.now) bank.old row.now) number height seen bank.new count.new.terms result }
+        → BuiltAs (sheet_of sheet.now) (row_in (sheet_of sheet.now) bank.old row.now) number
+        height seen bank.new count.new.terms result }
     ensures grown { Extends bank.old count.old.terms bank.new count.new.terms }
 {
     let next = candidate(sheet, bank, count, row, number)?;
@@ -72,7 +74,8 @@ pub(crate) fn cover(
     height: u8,
     labels: &mut [u16],
 ) -> Result<(), TableFault>
-    requires workable { Workable (sheet_of sheet.now) bank.old count.old.terms row.now number labels.old }
+    requires workable { Workable (sheet_of sheet.now) bank.old count.old.terms row.now number
+        labels.old }
     requires older { Comparable (sheet_of sheet.now) bank.old count.old.terms older.now }
     ensures answer { (seen : List Term) → Holding bank.old count.old.terms seen
         → Covered (sheet_of sheet.now) (row_in (sheet_of sheet.now) bank.old row.now) number
@@ -100,7 +103,8 @@ fn build_safe(
 ) -> Result<RowRecord, TableFault>
     requires { Workable (sheet_of sheet.now) bank.old count.old.terms row.now number labels.old }
     ensures proposed { (seen : List Term) → Holding bank.old count.old.terms seen
-        → Proposed (sheet_of sheet.now) (row_in (sheet_of sheet.now) bank.old row.now) number height is_full seen bank.new count.new.terms result }
+        → Proposed (sheet_of sheet.now) (row_in (sheet_of sheet.now) bank.old row.now) number
+        height is_full seen bank.new count.new.terms result }
     ensures grown { Extends bank.old count.old.terms bank.new count.new.terms }
 {
     let form = build(sheet, bank, count, row, number, height, labels)?;
@@ -126,7 +130,8 @@ pub(crate) fn propose(
 ) -> Result<RowRecord, TableFault>
     requires { Workable (sheet_of sheet.now) bank.old count.old.terms row.now number labels.old }
     ensures proposed { (seen : List Term) → Holding bank.old count.old.terms seen
-        → Proposed (sheet_of sheet.now) (row_in (sheet_of sheet.now) bank.old row.now) number height is_full seen bank.new count.new.terms result }
+        → Proposed (sheet_of sheet.now) (row_in (sheet_of sheet.now) bank.old row.now) number
+        height is_full seen bank.new count.new.terms result }
     ensures kept { KeptUnlessMade bank.old count.old.terms bank.new count.new.terms result }
 {
     let before = count.terms;
