@@ -2,15 +2,13 @@
 use Rattle.std.proofs.Common.{◌≡◌, ◌↔◌, ℕ, zero, suc, ◌⊎◌, true, false, List, [], ◌∷◌, ◌++◌, length, take, Some, None, Option, is_none, sym, refl, ap, ◌∙◌, subst, inl, inr, arith}
 use Rattle.std.specs.List.{slice_get}
 use Rattle.std.proofs.lemmas.Option.{none-some, same_Some}
-use Rattle.fault.specs.declared.Fault.{Fault}
 use Rattle.fault.specs.declared.TableFault.{TableFault}
-use Rattle.fault.specs.Values.{values_of}
 use Rattle.sheet.specs.System.{System}
 use Rattle.rules.specs.declared.Answer.{Answer}
 use Rattle.rules.specs.declared.Call.{Call}
 use Rattle.rules.specs.Standing.{Standing, opening}
 use Rattle.rules.specs.Calls.{Borne, RefusedBy, ComesTo}
-use Rattle.rules.specs.Promises.{Numbers, Suits, Answered, number_in, is_accepted, Moment}
+use Rattle.rules.specs.Promises.{Answered, Exact, number_in, number_of}
 use Rattle.rules.specs.Laws.{Played, AnsweredPromises}
 use Rattle.rules.proofs.Accounts.{WasAccepted, WasRefused, ways, played_turns, accounting}
 use Rattle.rules.proofs.Outcomes.{one_outcome, alone}
@@ -22,36 +20,30 @@ none_from (Some n) e = let z : ◌≡◌ {A = ℕ} 0 1 = cc in absurd (omega ari
 false_true : false ≡ true → ⊥
 false_true e = let z : ◌≡◌ {A = ℕ} 0 1 = cc in absurd (omega arith)
 
-abbrev number_of : TableFault → ℕ
-number_of e = (values_of (Fault.Table e)).number
-
 module _ (s : System) (limit : ℕ) (at : Standing) (call : Call) where
-  -- a call that is borne has no fault, and one that is refused has one
-  numbers_borne : Borne s limit at call → (number : Option ℕ) → Numbers s limit at call number → None ≡ number
-  numbers_borne borne None n = refl
-  numbers_borne borne (Some k) n = absurd (none-some n.0 (one_outcome s limit at call None (Some n.0) borne n.1))
+  -- a call that is borne has no fault
+  not_both : Borne s limit at call → (e : TableFault) → RefusedBy s limit at call e → ⊥
+  not_both borne e refused = none-some e (one_outcome s limit at call None (Some e) borne refused)
 
-  numbers_refused : (e : TableFault) → RefusedBy s limit at call e → (number : Option ℕ) → Numbers s limit at call number → Some (number_of e) ≡ number
-  numbers_refused e refused None n = absurd (none-some e (one_outcome s limit at call None (Some e) n refused))
-  numbers_refused e refused (Some k) n =
-      let one = same_Some e n.0 (one_outcome s limit at call (Some e) (Some n.0) refused n.1) in
-      ap (λ f. Some (number_of f)) one ∙ ap Some (sym n.2)
+  -- and one that is refused has one
+  one_fault : (e e' : TableFault) → RefusedBy s limit at call e → RefusedBy s limit at call e' → e ≡ e'
+  one_fault e e' refused refused' = same_Some e e' (one_outcome s limit at call (Some e) (Some e') refused refused')
 
-  exact_at : (answer : Answer) (after : Standing) → WasAccepted s limit at call answer after ⊎ WasRefused s limit at call answer after → (number : Option ℕ) → (number_in answer ≡ number) ↔ Numbers s limit at call number
-  exact_at answer after (inl w) number =
-      let none = none_from (number_in answer) w.0 in
-      ((λ e. subst (Numbers s limit at call) (sym none ∙ e) w.1), (λ n. none ∙ numbers_borne w.1 number n))
-  exact_at answer after (inr w) number =
-      let some : number_in answer ≡ Some (number_of w.0) = ap number_in w.1 in
-      ((λ e. subst (Numbers s limit at call) (sym some ∙ e) (w.0, w.2, refl)), (λ n. some ∙ numbers_refused w.0 w.2 number n))
-
-  bears_at : (answer : Answer) (after : Standing) → WasAccepted s limit at call answer after ⊎ WasRefused s limit at call answer after → Borne s limit at call ↔ ((e : TableFault) → RefusedBy s limit at call e → ⊥)
-  bears_at answer after (inl w) = ((λ borne e refused. none-some e (one_outcome s limit at call None (Some e) borne refused)), (λ not. w.1))
-  bears_at answer after (inr w) = ((λ borne e refused. none-some e (one_outcome s limit at call None (Some e) borne refused)), (λ not. absurd (not w.0 w.2)))
-
-  suits_at : (answer : Answer) (after : Standing) → WasAccepted s limit at call answer after ⊎ WasRefused s limit at call answer after → is_accepted answer ≡ true → Suits s at call answer
-  suits_at answer after (inl w) ok = w.2
-  suits_at answer after (inr w) ok = absurd (false_true (sym (ap is_accepted w.1) ∙ ok))
+  exact_of : (answer : Answer) (after : Standing) → WasAccepted s limit at call answer after ⊎ WasRefused s limit at call answer after → Exact s limit at call answer
+  exact_of answer after (inl w) =
+      record {
+        borne = ((λ ok. w.1), (λ borne. w.0));
+        bears = (not_both, (λ not. w.1));
+        refused = λ number. ((λ is. absurd (none-some number (sym (none_from (number_in answer) w.0) ∙ is))), (λ n. absurd (not_both w.1 n.0 n.1)));
+        suits = λ ok. w.2;
+      }
+  exact_of answer after (inr w) =
+      record {
+        borne = ((λ ok. absurd (false_true (sym (ap (λ a. is_none (number_in a)) w.1) ∙ ok))), (λ borne. absurd (not_both borne w.0 w.2)));
+        bears = (not_both, (λ not. absurd (not w.0 w.2)));
+        refused = λ number. ((λ is. (w.0, w.2, sym (same_Some (number_of w.0) number (sym (ap number_in w.1) ∙ is)))), (λ n. ap number_in w.1 ∙ ap Some (ap number_of (one_fault w.0 n.0 w.2 n.1) ∙ sym n.2)));
+        suits = λ ok. absurd (false_true (sym (ap (λ a. is_none (number_in a)) w.1) ∙ ok));
+      }
 
 -- as many answers as calls
 played_long : (s : System) (limit : ℕ) (calls : List Call) (answers : List Answer) (from at : Standing) → Played s limit from calls answers at → length answers ≡ length calls
@@ -102,14 +94,12 @@ answered_promises s limit calls answers at h safe =
       leads = λ k. (let p = played_take s limit k calls answers (opening s) at h in (p.0, played_turns s limit (take k calls) (take k answers) (opening s) p.0 p.1));
       alone = λ k one other t t'. alone s limit (take k calls) (opening s) one other t t';
       safe = safe;
-      exact = λ k here call answer m. (let w = where_at k here call answer m in exact_at s limit here call answer w.0 (ways s limit here call answer w.0 w.1));
-      bears = λ k here call answer m. (let w = where_at k here call answer m in bears_at s limit here call answer w.0 (ways s limit here call answer w.0 w.1));
-      suits = λ k here call answer m. (let w = where_at k here call answer m in suits_at s limit here call answer w.0 (ways s limit here call answer w.0 w.1));
-      adds = λ k here t. (let p = played_take s limit k calls answers (opening s) at h in let same' = alone s limit (take k calls) (opening s) p.0 here (played_turns s limit (take k calls) (take k answers) (opening s) p.0 p.1) t in let a = accounting s limit (take k calls) (take k answers) here (subst (λ z. Played s limit (opening s) (take k calls) (take k answers) z) same' p.1) in record { branches_add = a.branches_add; rows_add = a.rows_add });
+      exact = λ k here call answer t is is'. (let w = where_at k here call answer t is is' in exact_of s limit here call answer w.0 (ways s limit here call answer w.0 w.1));
+      adds = λ k here t. (let p = played_take s limit k calls answers (opening s) at h in let same' = alone s limit (take k calls) (opening s) p.0 here (played_turns s limit (take k calls) (take k answers) (opening s) p.0 p.1) t in accounting s limit (take k calls) (take k answers) here (subst (λ z. Played s limit (opening s) (take k calls) (take k answers) z) same' p.1));
     }
   where
-    where_at : (k : ℕ) (here : Standing) (call : Call) (answer : Answer) → Moment s limit calls answers k here call answer → (next : Standing) × Answered s limit here call answer next
-    where_at k here call answer m =
-        let w = at_call s limit k calls answers (opening s) at h call answer m.is_call m.is_answer in
-        let same' = alone s limit (take k calls) (opening s) w.0 here (played_turns s limit (take k calls) (take k answers) (opening s) w.0 w.2) m.before in
+    where_at : (k : ℕ) (here : Standing) (call : Call) (answer : Answer) → ComesTo s limit (take k calls) here → slice_get calls k ≡ Some call → slice_get answers k ≡ Some answer → (next : Standing) × Answered s limit here call answer next
+    where_at k here call answer t is is' =
+        let w = at_call s limit k calls answers (opening s) at h call answer is is' in
+        let same' = alone s limit (take k calls) (opening s) w.0 here (played_turns s limit (take k calls) (take k answers) (opening s) w.0 w.2) t in
         (w.1, subst (λ z. Answered s limit z call answer w.1) same' w.3)

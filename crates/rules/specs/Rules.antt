@@ -1,13 +1,18 @@
--- The rules of each call: when it is refused, with the fault that comes first, and when nothing refuses it. Assumes nothing.
-use Rattle.std.specs.Prelude.{◌≡◌, ◌≢◌, ℕ, ◌<◌, ◌≤◌, ◌⊎◌, List, ◌++◌, length, slice_get, Some, None}
+-- The rules of each call: which faults refuse it, and when nothing does. Assumes nothing.
+use Rattle.std.specs.Prelude.{◌≡◌, ◌≢◌, ℕ, ◌<◌, ◌≤◌, ◌⊎◌, List, ◌++◌, length}
+use Rattle.std.specs.Prelude.{slice_get, Some, None}
 use Rattle.fault.specs.declared.TableFault.{TableFault}
-use Rattle.fault.specs.declared.TableFault.TheVariants.{NoSuchBranch, NotWaiting, NotOut, HeightAboveBound, NamesExhausted, TermsExhausted, Satisfiable, NoRenaming, UnsafeForm, RowLimit}
+use Rattle.fault.specs.declared.TableFault.TheVariants.{NoSuchBranch, NotWaiting, NotOut}
+use Rattle.fault.specs.declared.TableFault.TheVariants.{HeightAboveBound, NamesExhausted}
+use Rattle.fault.specs.declared.TableFault.TheVariants.{TermsExhausted, Satisfiable, NoRenaming}
+use Rattle.fault.specs.declared.TableFault.TheVariants.{UnsafeForm, RowLimit}
 use Rattle.sheet.specs.System.{System}
 use Rattle.terms.specs.Terms.{Term, Literal, Sat}
 use Rattle.banks.specs.Room.{Roomy, Crowded}
 use Rattle.forms.specs.Rows.{Row}
 use Rattle.forms.specs.Candidate.{candidate}
-use Rattle.forms.specs.Counted.{Built, made, nameless, crowded, CandidateIn, ConditionsIn, ConditionsCrowded, FormIn, FitsVector, renamed_sides, claim_terms}
+use Rattle.forms.specs.Counted.{Built, made, nameless, crowded, CandidateIn, ConditionsIn}
+use Rattle.forms.specs.Counted.{ConditionsCrowded, FormIn, FitsVector, renamed_sides, claim_terms}
 use Rattle.forms.specs.Matching.{Takes}
 use Rattle.forms.specs.Safety.{Safe, Unsafe}
 use Rattle.rules.specs.declared.Branch.{Branch}
@@ -18,33 +23,57 @@ use Rattle.rules.specs.Standing.{Standing, mark_of}
 abbrev pub IsOut : Standing → Branch → Type 0
 IsOut at b = mark_of at b ≡ Some Out
 
--- the height bound of a sheet; a whole sheet has one
+-- a height above the sheet's bound, and one that is not; a whole sheet has a bound
 abbrev pub IsHigh : System → ℕ → Type 0
 IsHigh s h = (bound : ℕ) × (s.bound ≡ Some bound) × (bound < h)
 
 abbrev pub IsWithin : System → ℕ → Type 0
 IsWithin s h = (bound : ℕ) × (s.bound ≡ Some bound) × (h ≤ bound)
 
--- a candidate that was made is cut to its form; where names or terms were wanting for it, they are for the form
+-- a candidate that was made is cut to its form; what was wanting for the candidate is for the form
 abbrev pub Continues : ℕ → Built → Built → Type 0
 Continues h (made next seen) end = FormIn h seen next end
 Continues h nameless end = end ≡ nameless
 Continues h crowded end = end ≡ crowded
 
--- What building the form of a row's branch at a height comes to, where the bank has the terms `seen`: a form, with the terms
--- of the bank and the working terms by then; or names are wanting; or terms are: whichever is met first.
+-- What building the form of a row's branch at a height comes to, where the bank has the terms
+-- `seen`: a form, with the bank's and the working terms by then; or names or terms are wanting.
 abbrev pub BuildsFrom : System → Row → ℕ → ℕ → List Term → Built → Type 0
-BuildsFrom s row number h seen end = (begun : Built) × CandidateIn s row number seen begun × Continues h begun end
+BuildsFrom s row number h seen end =
+    (begun : Built) × CandidateIn s row number seen begun × Continues h begun end
+
+-- The older row's conditions, renamed so that bits and vector fit, have room beside the terms seen,
+-- or have none. Where bits and vector can't fit, nothing is renamed, and there is room.
+abbrev pub RenamedRoomy : Row → Row → List Term → Type 0
+RenamedRoomy older form seen =
+    (to : ℕ → ℕ) → FitsVector to older form → Roomy (seen ++ renamed_sides to older)
+
+abbrev pub RenamedCrowded : Row → Row → List Term → Type 0
+RenamedCrowded older form seen =
+    (to : ℕ → ℕ) × FitsVector to older form × Crowded (seen ++ renamed_sides to older)
+
+-- P is true of the branch's row
+abbrev pub InRow : Standing → Branch → (Row → Type 0) → Type 0
+InRow at b P = (row : Row) × (slice_get at.rows b.row ≡ Some row) × P row
 
 module _ (s : System) (at : Standing) where
-  -- the same of a branch of the table
+  -- what building the form of a branch of the table comes to
   abbrev pub Builds : Branch → ℕ → Built → Type 0
-  Builds b h end = (row : Row) × (slice_get at.rows b.row ≡ Some row) × BuildsFrom s row b.number h at.terms end
+  Builds b h end = InRow at b (λ row. BuildsFrom s row b.number h at.terms end)
+
+  -- the form is built, and P is true of it and of the terms seen by then
+  abbrev pub BuildsWith : Branch → ℕ → (Row → List Term → Type 0) → Type 0
+  BuildsWith b h P = (form : Row) × (seen : List Term) × Builds b h (made form seen) × P form seen
+
+  -- the candidate's conditions are made, have room in the bank, and P is true of them
+  abbrev pub ConditionsWith : Branch → (List Literal → Type 0) → Type 0
+  ConditionsWith b P =
+      InRow at b (λ row. (cs : List Literal) × ConditionsIn s row b.number at.terms cs × P cs)
 
   -- The ground of each offer, where names and terms suffice.
   -- strike: no model and no values meet the candidate's conditions
   abbrev pub Strikes : Branch → Type 0
-  Strikes b = (row : Row) × (slice_get at.rows b.row ≡ Some row) × ((cs : List Literal) × ConditionsIn s row b.number at.terms cs × (Sat cs → ⊥))
+  Strikes b = ConditionsWith b (λ cs. Sat cs → ⊥)
 
   -- merge: a renaming fits; the older row's conditions, renamed, have room
   pub record Merges (b : Branch) (target h : ℕ) : Type 0 where
@@ -54,7 +83,7 @@ module _ (s : System) (at : Standing) where
     pub form : Row
     pub seen : List Term
     pub built : Builds b h (made form seen)
-    pub roomy : (to : ℕ → ℕ) → FitsVector to older form → Roomy (seen ++ renamed_sides to older)
+    pub roomy : RenamedRoomy older form seen
     pub takes : Takes older form
 
   -- keep: the form is safe, and a row is free; the terms of all claims have room
@@ -77,9 +106,10 @@ module _ (s : System) (at : Standing) where
 
   abbrev pub StrikeRefused : Branch → TableFault → Type 0
   StrikeRefused b NotOut = IsOut at b → ⊥
-  StrikeRefused b NamesExhausted = IsOut at b × ((row : Row) × (slice_get at.rows b.row ≡ Some row) × (candidate s row b.number ≡ None))
-  StrikeRefused b TermsExhausted = IsOut at b × ((row : Row) × (slice_get at.rows b.row ≡ Some row) × ConditionsCrowded s row b.number at.terms)
-  StrikeRefused b Satisfiable = IsOut at b × ((row : Row) × (slice_get at.rows b.row ≡ Some row) × ((cs : List Literal) × ConditionsIn s row b.number at.terms cs × Sat cs))
+  StrikeRefused b NamesExhausted = IsOut at b × InRow at b (λ row. candidate s row b.number ≡ None)
+  StrikeRefused b TermsExhausted =
+      IsOut at b × InRow at b (λ row. ConditionsCrowded s row b.number at.terms)
+  StrikeRefused b Satisfiable = IsOut at b × ConditionsWith b Sat
   StrikeRefused b _ = ⊥
 
   -- what a merge has passed before names and terms are looked at
@@ -89,23 +119,32 @@ module _ (s : System) (at : Standing) where
   abbrev pub MergeRefused : Branch → ℕ → ℕ → TableFault → Type 0
   MergeRefused b target h NotOut = IsOut at b → ⊥
   MergeRefused b target h NoSuchBranch = IsOut at b × (slice_get at.rows target ≡ None)
-  MergeRefused b target h HeightAboveBound = IsOut at b × (slice_get at.rows target ≢ None) × IsHigh s h
-  MergeRefused b target h NamesExhausted = (older : Row) × MergeBegun b target h older × Builds b h nameless
+  MergeRefused b target h HeightAboveBound =
+      IsOut at b × (slice_get at.rows target ≢ None) × IsHigh s h
+  MergeRefused b target h NamesExhausted =
+      (older : Row) × MergeBegun b target h older × Builds b h nameless
   MergeRefused b target h TermsExhausted =
       (older : Row) × MergeBegun b target h older
-      × (Builds b h crowded ⊎ ((form : Row) × (seen : List Term) × Builds b h (made form seen) × ((to : ℕ → ℕ) × FitsVector to older form × Crowded (seen ++ renamed_sides to older))))
+      × (Builds b h crowded ⊎ BuildsWith b h (RenamedCrowded older))
   MergeRefused b target h NoRenaming =
       (older : Row) × MergeBegun b target h older
-      × ((form : Row) × (seen : List Term) × Builds b h (made form seen) × ((to : ℕ → ℕ) → FitsVector to older form → Roomy (seen ++ renamed_sides to older)) × (Takes older form → ⊥))
+      × ((form : Row) × (seen : List Term) × Builds b h (made form seen)
+      × RenamedRoomy older form seen × (Takes older form → ⊥))
   MergeRefused b target h _ = ⊥
 
   abbrev pub KeepRefused : ℕ → Branch → ℕ → TableFault → Type 0
   KeepRefused limit b h NotOut = IsOut at b → ⊥
   KeepRefused limit b h HeightAboveBound = IsOut at b × IsHigh s h
   KeepRefused limit b h NamesExhausted = IsOut at b × IsWithin s h × Builds b h nameless
-  KeepRefused limit b h TermsExhausted = IsOut at b × IsWithin s h × (Builds b h crowded ⊎ ((form : Row) × (seen : List Term) × Builds b h (made form seen) × Crowded (seen ++ claim_terms s form)))
+  KeepRefused limit b h TermsExhausted =
+      IsOut at b × IsWithin s h
+      × (Builds b h crowded ⊎ BuildsWith b h (λ form seen. Crowded (seen ++ claim_terms s form)))
   KeepRefused limit b h UnsafeForm =
-      IsOut at b × IsWithin s h × ((form : Row) × (seen : List Term) × Builds b h (made form seen) × Roomy (seen ++ claim_terms s form) × Unsafe s form)
+      IsOut at b × IsWithin s h
+      × ((form : Row) × (seen : List Term) × Builds b h (made form seen)
+      × Roomy (seen ++ claim_terms s form) × Unsafe s form)
   KeepRefused limit b h RowLimit =
-      IsOut at b × IsWithin s h × ((form : Row) × (seen : List Term) × Builds b h (made form seen) × Roomy (seen ++ claim_terms s form) × Safe s form × (limit ≤ length at.rows))
+      IsOut at b × IsWithin s h
+      × ((form : Row) × (seen : List Term) × Builds b h (made form seen)
+      × Roomy (seen ++ claim_terms s form) × Safe s form × (limit ≤ length at.rows))
   KeepRefused limit b h _ = ⊥

@@ -1,29 +1,37 @@
-//! Calls on a check table: what the rules make of them, and the three promises about any list of calls.
+//! Calls on a check table: what the rules make of them, the three promises about any list of calls,
+//! and the laws that these rest on.
 #![tactic(auto)]
 
-ghost use Rattle.rules.specs.Safety.{Covered, Settles, Keeping};
-ghost use Rattle.rules.specs.Laws.{Accounting, Counting, Alone, AnsweredPromises, Bears, OneOutcome, PlayedTurns};
-ghost use Rattle.rules.specs.Working.{WorkPlayed, OneWork, WorkSettles};
+ghost use Rattle.rules.specs.Laws.{Accounting, Alone, AnsweredPromises, Bears, Counting};
+ghost use Rattle.rules.specs.Laws.{OneOutcome, PlayedTurns};
+ghost use Rattle.rules.specs.Safety.{Covered, Keeping, Settles};
+ghost use Rattle.rules.specs.Working.{OneWork, WorkPlayed, WorkSettles};
 
 use fault::TableFault;
+
 /// What has become of a branch.
 #[derive(Clone, Copy, Debug, PartialEq, Eq)]
 pub enum Mark {
+    /// Nobody has taken it.
     Waiting,
+    /// It was taken, and a ticket names it.
     Out,
+    /// No run goes on by it.
     Struck,
+    /// An older row takes its form.
     Merged,
+    /// Its form is a row.
     Kept,
 }
 
-/// A branch of a row, as a ticket names it.
+/// A branch of a row, as a call and a ticket name it.
 #[derive(Clone, Copy, Debug, PartialEq, Eq)]
 pub struct Branch {
     pub row: u8,
     pub number: u8,
 }
 
-/// A call on a table.
+/// A call on a table. A ticket is told by the branch that it names.
 #[derive(Clone, Copy, Debug, PartialEq, Eq)]
 pub enum Call {
     Take(Branch),
@@ -46,10 +54,15 @@ pub enum Call {
 pub enum Answer {
     /// A ticket that names the branch.
     Taken(Branch),
+    /// A give back, a merge or a keep was accepted.
     Done,
+    /// A strike was accepted: so many times two classes of equal terms became one.
     Joined(u16),
+    /// The verdict: no branch is waiting or out.
     Holds,
+    /// The verdict: so many branches are. A table without rows is open with none.
     Open { waiting: u32, out: u32 },
+    /// The call changed nothing.
     Refused(TableFault),
 }
 
