@@ -1,28 +1,88 @@
 //! The walk over rows and branches.
-ghost use Rattle.std.specs.Prelude.{◌≡◌, ℕ};
+ghost use Rattle.std.specs.Prelude.{◌≡◌, ◌+◌, ◌-◌, ◌≤◌, ◌++◌, length};
+ghost use Rattle.std.specs.List.{range_with_len};
+ghost use Rattle.queue.specs.Entries.{entries, room};
+ghost use Rattle.working.specs.Work.{BranchWorked, RowWorked, TableWorked};
 
 use crate::offering::settle;
 use fault::TableFault;
 use queue::Queue;
 use rules::{Branch, Mark, Outcome};
-use table::{Table, Verdict};
+use table::{Refusal, Table, Verdict};
 
 const MOST_ROWS: usize = 64;
 
-/// Settles a branch that waits; where no offer on it is accepted it is given back, and this is how the work ends.
-fn work_branch(table: &mut Table, branch: Branch) -> Option<Outcome>
+/// What the work ends with where no offer on the branch is accepted, by the fault of the keep.
+fn ending(branch: Branch, fault: TableFault) -> Outcome
+    ensures { result ≡ ending branch fault }
 {
-    let ticket = match table.take(branch.row, branch.number) {
-        Ok(ticket) => ticket,
-        Err(_) => return None,
-    };
-    let Err(refusal) = settle(table, ticket) else {
-        return None;
-    };
-    let fault = refusal.fault;
-    ...give back
-    Some(match fault {
+    match fault {
         TableFault::UnsafeForm => Outcome::Unknown(branch),
         _ => Outcome::Full(branch),
-    })
+    }
+}
+
+/// Settles a branch that waits. Where no offer on it is accepted it is given back, and the work ends.
+fn work_branch(table: &mut Table, branch: Branch) -> Option<Outcome>
+    ensures { BranchWorked table.old branch table.new result }
+{
+    let Ok(ticket) = table.take(branch) else {
+        return None;
+    };
+    let Err(Refusal { fault, ticket }) = settle(table, ticket) else {
+        return None;
+    };
+    match table.give_back(ticket) {
+        Ok(()) => Some(ending(branch, fault)),
+        // The ticket's branch is out here.
+        Err(_refusal) => unreachable!(),
+    }
+}
+
+/// Works the branches of a row, in order, passing any that does not wait.
+fn work_row(table: &mut Table, row: u8) -> Option<Outcome>
+    ensures { RowWorked table.old row table.new result }
+{
+    for number in 0..table.branches() {
+        let branch = Branch { row, number };
+        if table.mark(branch) != Some(Mark::Waiting) {
+            continue;
+        }
+        if let Some(outcome) = work_branch(table, branch) {
+            return Some(outcome);
+        }
+    }
+    None
+}
+
+/// The rows from one number up to another wait behind those that are due.
+fn enqueue(due: &mut Queue<u8>, from: u8, to: u8)
+    requires { length (entries due.old) + (to - from) ≤ room due.old }
+    ensures rows { entries due.new ≡ entries due.old ++ range_with_len from (to - from) }
+    ensures roomy { room due.new ≡ room due.old }
+{
+    for row in from..to {
+        let _full = due.push(row);
+    }
+}
+
+/// Works the table through: over its rows in order, also those that it keeps on the way, and their branches in order. The
+/// rows that are still due wait in a queue.
+pub fn work_through(table: &mut Table) -> Outcome
+    ensures { TableWorked table.old table.new result }
+{
+    let mut slots = [0u8; MOST_ROWS];
+    let mut due = Queue::new(&mut slots);
+    enqueue(&mut due, 0, table.rows());
+    while let Some(row) = due.pop() {
+        let known = table.rows();
+        if let Some(outcome) = work_row(table, row) {
+            return outcome;
+        }
+        enqueue(&mut due, known, table.rows());
+    }
+    match table.verdict() {
+        Verdict::Holds => Outcome::Holds,
+        Verdict::Open { waiting, out } => Outcome::Open { waiting, out },
+    }
 }
