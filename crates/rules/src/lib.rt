@@ -2,12 +2,20 @@
 //! and the laws that these rest on.
 #![tactic(auto)]
 
+ghost use Rattle.std.specs.Prelude.{◌≡◌, ℕ, List, slice_get, IfOk};
+ghost use Rattle.sheet.specs.View.{sheet_of};
+ghost use Rattle.rules.specs.declared.Answer.{Answer};
+ghost use Rattle.rules.specs.declared.Answer.TheVariants.{Holds};
+ghost use Rattle.rules.specs.declared.Call.{Call};
 ghost use Rattle.rules.specs.Laws.{Accounting, Alone, AnsweredPromises, Bears, Counting};
 ghost use Rattle.rules.specs.Laws.{OneOutcome, PlayedTurns};
+ghost use Rattle.rules.specs.Promises.{Promises};
 ghost use Rattle.rules.specs.Safety.{Covered, Keeping, Settles};
 ghost use Rattle.rules.specs.Working.{OneWork, WorkPlayed, WorkSettles};
 
-use fault::TableFault;
+use fault::{Fault, TableFault};
+use plant::Model;
+use sheet::Sheet;
 
 /// What has become of a branch.
 #[derive(Clone, Copy, Debug, PartialEq, Eq)]
@@ -83,7 +91,7 @@ pub enum Outcome {
     /// No branch is waiting or out.
     Holds,
     /// So many branches are, each of them out for somebody else.
-    Open { waiting: usize, out: usize },
+    Open { waiting: u32, out: u32 },
     /// The form of this branch is not safe.
     Unknown(Branch),
     /// Names, terms or rows do not suffice for this branch.
@@ -157,3 +165,19 @@ pub fn counting()
 pub fn work_settles()
     ensures { WorkSettles }
 {}
+
+/// Runs a sheet on the bench. Where some list of calls on a newly opened table was answered holds, the run answers none, over
+/// every plant model.
+pub fn run_after_holds<M: Model>(
+    sheet: &Sheet,
+    model: &mut M,
+    starts: &[u32],
+    n: u32,
+    inputs: &[u32],
+) -> Result<Option<u32>, Fault>
+    ensures { (limit : ℕ) (calls : List Call) (answers : List Answer) (k : ℕ)
+        → Promises (sheet_of sheet.now) limit calls answers → slice_get answers k ≡ Some Holds
+        → IfOk result (λ answer. answer ≡ None) }
+{
+    bench::run(sheet, model, starts, n, inputs)
+}
