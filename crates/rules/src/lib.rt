@@ -11,6 +11,7 @@ ghost use Rattle.rules.specs.Laws.{Accounting, Alone, AnsweredPromises, Bears, C
 ghost use Rattle.rules.specs.Laws.{OneOutcome, PlayedTurns};
 ghost use Rattle.rules.specs.Promises.{Promises};
 ghost use Rattle.rules.specs.Safety.{Covered, Keeping, Settles};
+ghost use Rattle.rules.specs.Standing.{is_waiting, is_out, is_struck, is_merged, is_kept};
 ghost use Rattle.rules.specs.Working.{OneWork, WorkPlayed, WorkSettles};
 
 use fault::{Fault, TableFault};
@@ -30,6 +31,43 @@ pub enum Mark {
     Merged,
     /// Its form is a row.
     Kept,
+}
+
+impl Mark {
+    /// Whether the branch waits to be taken.
+    pub fn is_waiting(self) -> bool
+        ensures { result ≡ is_waiting self }
+    {
+        matches!(self, Mark::Waiting)
+    }
+
+    /// Whether a ticket for the branch is out.
+    pub fn is_out(self) -> bool
+        ensures { result ≡ is_out self }
+    {
+        matches!(self, Mark::Out)
+    }
+
+    /// Whether a strike has settled the branch.
+    pub fn is_struck(self) -> bool
+        ensures { result ≡ is_struck self }
+    {
+        matches!(self, Mark::Struck)
+    }
+
+    /// Whether a merge has settled the branch.
+    pub fn is_merged(self) -> bool
+        ensures { result ≡ is_merged self }
+    {
+        matches!(self, Mark::Merged)
+    }
+
+    /// Whether a keep has settled the branch.
+    pub fn is_kept(self) -> bool
+        ensures { result ≡ is_kept self }
+    {
+        matches!(self, Mark::Kept)
+    }
 }
 
 /// A branch of a row, as a call and a ticket name it.

@@ -4,3 +4,11 @@ pub mod Covering
 pub mod Proposing
 pub mod Refuting
 pub mod Beginning
+pub mod Lists
+pub mod Marking
+pub mod Following
+pub mod Offering
+pub mod Growing
+pub mod Running
+pub mod Handing
+pub mod Existing

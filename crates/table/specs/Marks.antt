@@ -8,7 +8,7 @@ use Rattle.table.specs.declared.mark.Event.{Event}
 use Rattle.table.specs.declared.mark.Event.TheVariants.{Take, GiveBack, Strike, Merge, Keep}
 
 -- a branch that is out becomes this; no other may
-abbrev if_out : Mark → Mark → Result Mark TableFault
+abbrev pub if_out : Mark → Mark → Result Mark TableFault
 if_out new Out = Ok new
 if_out new Waiting = Err NotOut
 if_out new Struck = Err NotOut
@@ -16,7 +16,7 @@ if_out new Merged = Err NotOut
 if_out new Kept = Err NotOut
 
 -- a branch that is waiting becomes this; no other may
-abbrev if_waiting : Mark → Mark → Result Mark TableFault
+abbrev pub if_waiting : Mark → Mark → Result Mark TableFault
 if_waiting new Waiting = Ok new
 if_waiting new Out = Err NotWaiting
 if_waiting new Struck = Err NotWaiting

@@ -12,11 +12,11 @@ use Rattle.rules.specs.declared.Mark.{Mark}
 use Rattle.table.specs.Offers.{Comparable}
 
 -- the lengths that a table's memory has
-pub record HasLengths (bank rows marks work : ℕ) : Type 0 where
-  pub bank : bank ≡ 512
-  pub rows : rows ≡ 64
-  pub marks : marks ≡ 4096
-  pub work : work ≡ 512
+pub record HasLengths (b r m w : ℕ) : Type 0 where
+  pub bank : b ≡ 512
+  pub rows : r ≡ 64
+  pub marks : m ≡ 4096
+  pub work : w ≡ 512
 
 -- past the end
 abbrev pub no_row : RowRecord
@@ -28,7 +28,7 @@ pub record Fitting (s : System) (rs : List TermRecord) (n : ℕ) (rows : List Ro
   pub bank : Bank rs n
   pub within : used ≤ limit
   pub limited : limit ≤ 64
-  pub rows : (k : ℕ) → k < used → Comparable s rs n (slice_index_or rows k no_row)
+  pub comparable : (k : ℕ) → k < used → Comparable s rs n (slice_index_or rows k no_row)
 
 -- a table that is not open has no rows and no terms
 pub record Blank (n used : ℕ) : Type 0 where

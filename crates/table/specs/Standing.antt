@@ -1,5 +1,6 @@
 -- Which standing of the rules a table stands for, and what a call makes of it. Assumes nothing.
-use Rattle.std.specs.Prelude.{◌≡◌, ℕ, List, map, take, Option, None, Some}
+use Rattle.std.specs.Prelude.{◌≡◌, ℕ, List, map, take, length, Option, None, Some, Result, MatchResult}
+use Rattle.fault.specs.declared.TableFault.{TableFault}
 use Rattle.sheet.specs.declared.sheet.Sheet.{Sheet}
 use Rattle.sheet.specs.System.{System}
 use Rattle.sheet.specs.View.{sheet_of}
@@ -7,10 +8,11 @@ use Rattle.banks.specs.Room.{Holding}
 use Rattle.rows.specs.Records.{row_in}
 use Rattle.rules.specs.declared.Answer.{Answer}
 use Rattle.rules.specs.declared.Call.{Call}
-use Rattle.rules.specs.Promises.{Answered}
-use Rattle.rules.specs.Standing.{Standing, branches}
+use Rattle.rules.specs.Laws.{Played}
+use Rattle.rules.specs.Promises.{Answered, Opens, OpenRefused}
+use Rattle.rules.specs.Standing.{Standing, branches, opening, unopened}
 use Rattle.table.specs.declared.table.Table.{Table}
-use Rattle.table.specs.Memory.{marks_by_row}
+use Rattle.table.specs.Memory.{HasLengths, marks_by_row}
 
 -- an open table has the sheet and the row limit with which it was opened; one that is not open has any
 abbrev pub IsOpenWith : Option Sheet → ℕ → System → ℕ → Type 0
@@ -29,3 +31,36 @@ abbrev pub Performs : Table → Call → Answer → Table → Type 0
 Performs old call answer new =
     (s : System) (limit : ℕ) (at : Standing) → Stands s limit old at
     → (after : Standing) × Answered s limit at call answer after × Stands s limit new after
+
+-- the same of calls one after another
+abbrev pub PlayedBy : Table → List Call → List Answer → Table → Type 0
+PlayedBy old calls answers new =
+    (s : System) (limit : ℕ) (at : Standing) → Stands s limit old at
+    → (after : Standing) × Played s limit at calls answers after × Stands s limit new after
+
+-- the memory of a table has the lengths that an open one needs
+abbrev pub Fits : Table → Type 0
+Fits table = HasLengths (length table.bank.now) (length table.rows.now) (length table.marks.now) (length table.work.now)
+
+-- the table has no rows, whatever sheet and limit were asked
+abbrev pub IsUnopened : Table → Type 0
+IsUnopened table = (s : System) (limit : ℕ) → Stands s limit table unopened
+
+-- opened on the sheet with the limit; or refused as the rules say, and then without rows
+abbrev pub Opened : System → ℕ → Table → Table → Result Unit TableFault → Type 0
+Opened s limit old new result = MatchResult result (λ _. Opens s limit (Fits old) × Stands s limit new (opening s)) (λ e. OpenRefused s limit (Fits old) e × IsUnopened new)
+
+-- how many rows a table has
+abbrev pub rows_of : Table → ℕ
+rows_of table = table.used
+
+-- what is true of each standing that the table stands for
+abbrev pub Tells : Table → (System → Standing → Type 0) → Type 0
+Tells table P = (s : System) (limit : ℕ) (at : Standing) → Stands s limit table at → P s at
+
+-- a table stands for some standing
+pub record StandsForSome (table : Table) : Type 0 where
+  pub system : System
+  pub limit : ℕ
+  pub at : Standing
+  pub stands : Stands system limit table at

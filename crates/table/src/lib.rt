@@ -3,6 +3,17 @@
 //! from every standing that the table stood for, by the rules, to one that it stands for now.
 #![tactic(auto)]
 
+mod calls;
 mod mark;
 mod offers;
 mod opening;
+mod places;
+mod settling;
+mod table;
+mod telling;
+mod ticket;
+mod verdict;
+
+pub use table::Table;
+pub use ticket::{Refusal, Ticket};
+pub use verdict::Verdict;

@@ -1,25 +1,13 @@
-//! The table and its calls.
-ghost use Rattle.std.specs.Prelude.{◌≡◌};
+//! The table, and its opening.
 ghost use Rattle.table.specs.Memory.{FitsIfOpen, FitsIfOpen-prop};
 
-use crate::mark::{Event, next_mark};
-use crate::offers::{cover, propose, refute};
 use crate::opening::begin;
-use crate::ticket::{Refusal, Ticket};
+use crate::places::{branches_of, wait};
 use fault::TableFault;
 use rows::RowRecord;
-use rules::{Branch, Mark};
+use rules::Mark;
 use sheet::Sheet;
-use terms::{Count, TermRecord};
-
-/// What a table has come to.
-#[derive(Clone, Copy, Debug, PartialEq, Eq)]
-pub enum Verdict {
-    /// No branch is waiting or out.
-    Holds,
-    /// So many are. A table without rows is open with none.
-    Open { waiting: usize, out: usize },
-}
+use terms::{Count, MOST_TERMS, TermRecord};
 
 const MOST_ROWS: usize = 64;
 
@@ -40,6 +28,11 @@ pub struct Table<'a> {
 }
 
 impl<'a> Table<'a> {
+    ghost use Rattle.std.specs.Prelude.{ℕ};
+    ghost use Rattle.sheet.specs.System.{System};
+    ghost use Rattle.rules.specs.Standing.{unopened};
+    ghost use Rattle.table.specs.Standing.{Stands};
+
     /// A table that was never opened, over memory of any length.
     pub fn new(
         bank: &'a mut [TermRecord],
@@ -63,6 +56,9 @@ impl<'a> Table<'a> {
 }
 
 impl Table<'_> {
+    ghost use Rattle.sheet.specs.View.{sheet_of};
+    ghost use Rattle.table.specs.Standing.{Opened};
+
     /// Opens the table on a sheet, which it keeps, with a row limit; or opens it anew. After a refusal it has no rows.
     pub fn open(&mut self, sheet: Sheet, limit: u8) -> Result<(), TableFault>
         ensures { Opened (sheet_of sheet) limit self.old self.new result }
@@ -79,39 +75,18 @@ impl Table<'_> {
         {
             return Err(TableFault::BadMemory);
         }
-        match begin(&sheet, self.bank, &mut self.count, self.work) {
+        let mut count = Count { terms: 0 };
+        match begin(&sheet, self.bank, &mut count, self.work) {
             Ok(row) => {
-                let branches = branches_of(&sheet);
-                wait(self.marks, 0, branches);
+                wait(self.marks, 0, branches_of(&sheet));
                 self.rows[0] = row;
                 self.sheet = Some(sheet);
                 self.limit = limit;
                 self.used = 1;
+                self.count = count;
                 Ok(())
             }
-            Err(fault) => {
-                self.count = Count { terms: 0 };
-                Err(fault)
-            }
+            Err(fault) => Err(fault),
         }
     }
-
-    // The place of a branch's mark, where there is such a row and branch.
-    fn place(&self, branch: Branch) -> Option<usize> { .. }
-
-    // The place of the branch's mark, and what the event makes of it; a branch that is not there is not out.
-    fn turn(&self, branch: Branch, event: Event) -> Result<(usize, Mark), TableFault> { .. }
-
-    pub fn take(&mut self, row: u8, number: u8) -> Result<Ticket, TableFault>
-        ensures { Performs self.old (Take (record { row = row; number = number })) (answer_of_take result) self.new }
-
-    fn strike_branch(&mut self, branch: Branch) -> Result<u16, TableFault>  // all the work with `?` (or match), then the mark
-    pub fn strike(&mut self, ticket: Ticket) -> Result<u16, Refusal>
-        ensures performs { Performs self.old (Strike (branch_of ticket)) (answer_of_strike result) self.new }
-        ensures unspent { IfErr result (λ refusal. refusal.ticket ≡ ticket) }
-    {
-        let made = self.strike_branch(ticket.branch);
-        ticket.settle(made)
-    }
-    // likewise give_back, merge(ticket, target, height), keep(ticket, height); pub fn verdict(&self) -> Verdict
 }

@@ -1,24 +1,50 @@
 //! What a table tells, without changing it.
-ghost use Rattle.std.specs.Prelude.{◌≡◌, ℕ, ◌<◌, ◌≤◌, length, IsSome, Some};
-ghost use Rattle.sheet.specs.System.{System};
-ghost use Rattle.rules.specs.Standing.{Standing, branches, mark_of, counts_of};
-ghost use Rattle.table.specs.Standing.{Stands, Tells, rows_of};
+ghost use Rattle.std.specs.Prelude.{◌≡◌, ◌<◌, ◌≤◌, length, IsSome, Some, count_by};
+ghost use Rattle.rules.specs.Standing.{branches, mark_of, counts_of, is_struck, is_merged, is_kept};
+ghost use Rattle.table.specs.Standing.{StandsForSome, Tells, rows_of};
 
 use crate::table::Table;
+use crate::verdict::{out_in, waiting_in};
+use rows::front;
 use rules::{Branch, Counts, Mark};
 
+fn struck_in(marks: &[Mark]) -> usize
+    ensures { result ≡ count_by is_struck marks.now }
+{
+    marks.iter().filter(|mark| mark.is_struck()).count()
+}
+
+fn merged_in(marks: &[Mark]) -> usize
+    ensures { result ≡ count_by is_merged marks.now }
+{
+    marks.iter().filter(|mark| mark.is_merged()).count()
+}
+
+fn kept_in(marks: &[Mark]) -> usize
+    ensures { result ≡ count_by is_kept marks.now }
+{
+    marks.iter().filter(|mark| mark.is_kept()).count()
+}
+
 impl Table<'_> {
-    /// How many rows the table has. There is always a standing that the table stands for.
+    /// How many rows the table has. Whatever was done with it, it stands for some standing of the rules.
     pub fn rows(&self) -> u8
         ensures number { result ≡ rows_of self.now }
         ensures few { result ≤ 64 }
         ensures rows { Tells self.now (λ s at. result ≡ length at.rows) }
-        ensures stands { (s : System) × (limit : ℕ) × (at : Standing) × Stands s limit self.now at }
+        ensures stands { StandsForSome self.now }
     {
         self.used
     }
 
-    /// The height bound of the table's sheet; 0 where it is not open.
+    /// How many branches each row has; 0 where the table has no rows.
+    pub fn branches_per_row(&self) -> u8
+        ensures { Tells self.now (λ s at. 0 < length at.rows → result ≡ branches s) }
+    {
+        self.branches() as u8
+    }
+
+    /// The height bound of the table's sheet; 0 where the table has no rows.
     pub fn bound(&self) -> u8
         ensures { Tells self.now (λ s at. 0 < length at.rows → s.bound ≡ Some result) }
     {
@@ -34,6 +60,22 @@ impl Table<'_> {
         ensures there { Tells self.now
             (λ s at. branch.row < length at.rows → branch.number < branches s → IsSome result) }
     {
-        self.place(branch).map(|place| self.marks[place])
+        let place = self.place(branch)?;
+        Some(self.marks[place])
+    }
+
+    /// How many rows the table has, and how many branches have each mark.
+    pub fn counts(&self) -> Counts
+        ensures { Tells self.now (λ s at. result ≡ counts_of at) }
+    {
+        let marks = front(self.marks, self.used as usize * self.branches());
+        Counts {
+            rows: self.used as usize,
+            kept: kept_in(marks),
+            merged: merged_in(marks),
+            struck: struck_in(marks),
+            waiting: waiting_in(marks),
+            out: out_in(marks),
+        }
     }
 }

@@ -1,6 +1,6 @@
 //! Tickets.
 ghost use Rattle.std.specs.Prelude.{◌≡◌};
-ghost use Rattle.table.specs.Answers.{branch_of};
+ghost use Rattle.table.specs.Answers.{branch_of, settled};
 
 use fault::TableFault;
 use rules::Branch;
@@ -17,6 +17,22 @@ impl Ticket {
         ensures { result ≡ branch_of self.now }
     {
         self.branch
+    }
+
+    /// The ticket is spent where the work was done, and handed back where it was refused.
+    pub(crate) fn settle<T>(self, made: Result<T, TableFault>) -> Result<T, Refusal>
+        ensures { result ≡ settled self made }
+    {
+        match made {
+            Ok(done) => {
+                let Ticket { branch: _ } = self;
+                Ok(done)
+            }
+            Err(fault) => Err(Refusal {
+                fault,
+                ticket: self,
+            }),
+        }
     }
 }
 

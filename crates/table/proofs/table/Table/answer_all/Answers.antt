@@ -1,0 +1,29 @@
+use Rattle.std.proofs.Common.{◌≡◌, map, refl, subst}
+use Rattle.std.proofs.lemmas.Result.{err_from_is_err_and}
+use Rattle.sheet.specs.View.{sheet_of}
+use Rattle.sheet.proofs.Fewness.{lawful_sheet}
+use Rattle.rules.specs.Standing.{Standing, opening}
+use Rattle.rules.proofs.Promised.{played_alone}
+use Rattle.rules.proofs.Whole.{keeping}
+use Rattle.table.specs.Answers.{answer_of, call_of}
+use Rattle.table.specs.Standing.{Stands}
+use Rattle.table.proofs.table.Table.answer_all.Goals as goal
+
+pub returns-in_err-open : goal.returns-in_err-open
+returns-in_err-open c =
+    let p = err_from_is_err_and c.from_residual.result c.from_residual.ensures.1 in
+    rw (p.1, p.2) (record { calls = refl; promised = (c.in_err-open.ensures.0, refl); left = tt; refused = c.in_err-open.ensures.1 })
+
+pub returns : goal.returns
+returns c =
+    let s = sheet_of c.args.sheet in
+    let opens = c.in_ok-open.ensures.0 in
+    let calls = map call_of c.make_all.new.entries in
+    let answers = map answer_of c.make_all.new.entries in
+    let run = c.make_all.ensures.played s c.args.limit (opening s) c.in_ok-open.ensures.1 in
+    record {
+      calls = c.make_all.ensures.calls;
+      promised = (opens, keeping s (lawful_sheet s c.args.sheet.lawful) opens.3 c.args.limit calls answers run.0 run.1);
+      left = λ at comes. subst (λ (x : Standing). Stands s c.args.limit c.make_all.new.self x) (played_alone s c.args.limit calls answers run.0 at run.1 comes) run.2;
+      refused = tt;
+    }
