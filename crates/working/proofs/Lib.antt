@@ -1,2 +1,2 @@
-pub mod Offering
-pub mod Walking
+pub mod Offers
+pub mod Walks

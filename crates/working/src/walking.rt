@@ -2,7 +2,7 @@
 ghost use Rattle.std.specs.Prelude.{◌≡◌, ◌+◌, ◌-◌, ◌≤◌, ◌++◌, length};
 ghost use Rattle.std.specs.List.{range_with_len};
 ghost use Rattle.queue.specs.Entries.{entries, room};
-ghost use Rattle.working.specs.Work.{BranchWorked, RowWorked, TableWorked};
+ghost use Rattle.working.specs.Work.{BranchWorked, RowWorked, TableWorked, ending};
 
 use crate::offering::settle;
 use fault::TableFault;
@@ -43,7 +43,7 @@ fn work_branch(table: &mut Table, branch: Branch) -> Option<Outcome>
 fn work_row(table: &mut Table, row: u8) -> Option<Outcome>
     ensures { RowWorked table.old row table.new result }
 {
-    for number in 0..table.branches() {
+    for number in 0..table.branches_per_row() {
         let branch = Branch { row, number };
         if table.mark(branch) != Some(Mark::Waiting) {
             continue;
