@@ -22,8 +22,7 @@ kept_as s at b form seen =
     }
 
 module _ (s : System) (limit : ℕ) where
-  -- The rules bear the call: ticket, target row, height, names and terms suffice, and its ground is
-  -- there.
+  -- The rules bear the call: nothing that it needs is wanting, and its ground is there.
   abbrev pub Borne : Standing → Call → Type 0
   Borne at (Take b) = mark_of at b ≡ Some Waiting
   Borne at (GiveBack b) = IsOut at b

@@ -33,8 +33,8 @@ pub record RunInputs (s : System) (starts inputs : List ℕ) (n : ℕ) : Type 0 
   pub inputs_long : length inputs ≡ n * s.inputs
   pub inputs_small : AllByRecursion IsValue inputs
 
--- The invariant is true at the start and after any number of steps, whatever the start values and
--- inputs, over every plant model; and every run that the bench accepts answers none.
+-- Over every plant model, with any start values and any inputs, each configuration of a run has a
+-- true invariant, from the first one on; and the bench finds no break in a run that it accepts.
 pub record AlwaysTrue (s : System) : Type 0 where
   pub steps : (m : Meaning) → IsPlant m → (starts inputs : List ℕ) (n : ℕ)
       → RunInputs s starts inputs n → invariant_holds m s (after m s starts inputs n) ≡ true
@@ -98,8 +98,8 @@ Answered s limit at call answer after =
     Borne s limit at call × Suits s at call answer × Makes s limit at call after
 
 module _ (s : System) (calls : List Call) (answers : List Answer) (at : Standing) where
-  -- Kept, merged and struck count accepted calls; waiting and out count the marks after them.
-  -- Together they are all branches of all rows; and each row but the first was kept.
+  -- All branches of all rows are those of the accepted keeps, merges and strikes, and those that
+  -- wait or are out after the calls; and each row but the first was kept.
   pub record Accounts : Type 0 where
     pub branches_add : length at.rows * branches s
         ≡ ((accepted is_keep calls answers + accepted is_merge calls answers)

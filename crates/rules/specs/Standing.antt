@@ -30,7 +30,7 @@ abbrev pub opening : System → Standing
 opening s =
     record { rows = first_row s ∷ []; marks = all_waiting s ∷ []; terms = (first_row s).vector }
 
--- a table that was never opened, or whose last open was refused
+-- a table that is not open, be it new or after a refused opening
 abbrev pub unopened : Standing
 unopened = record { rows = []; marks = []; terms = [] }
 
