@@ -34,13 +34,13 @@ pub record RunInputs (s : System) (starts inputs : List ℕ) (n : ℕ) : Type 0 
   pub inputs_small : AllByRecursion IsValue inputs
 
 -- Over every plant model, with any start values and any inputs, each configuration of a run has a
--- true invariant, from the first one on; and the bench finds no break in a run that it accepts.
+-- true invariant, from the first one on; and a run that the bench accepts has no answer but none.
 pub record AlwaysTrue (s : System) : Type 0 where
   pub steps : (m : Meaning) → IsPlant m → (starts inputs : List ℕ) (n : ℕ)
       → RunInputs s starts inputs n → invariant_holds m s (after m s starts inputs n) ≡ true
   pub runs : (m : Meaning) → IsPlant m → (starts inputs : List ℕ) (n : ℕ)
       → Accepted s starts inputs n → AllByRecursion IsValue starts → AllByRecursion IsValue inputs
-      → FirstBreak m s starts inputs n None
+      → (answer : Option ℕ) → FirstBreak m s starts inputs n answer ↔ (answer ≡ None)
 
 -- the number of a fault at the table, and of an answer: a refusal has its fault's, no other has one
 abbrev pub number_of : TableFault → ℕ
