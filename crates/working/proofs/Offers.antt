@@ -32,6 +32,9 @@ pub onward_next : (s : System) (limit : ℕ) (at : Standing) (offs later : List 
 onward_next s limit at offs later offer fault answered onward made given end after offered =
     onward (offer ∷ made) (Refused fault ∷ given) end after (refused offer later made given fault end after answered offered)
 
+less_none : (n : ℕ) → n - 0 ≡ n
+less_none n = omega arith
+
 module _ (s : System) (b : Branch) where
   pub merges_step : (t n : ℕ) → t < n → merges_and_keep s b t n ≡ Merge b t (bound_of s) ∷ merges_and_keep s b (t + 1) n
   merges_step t n lt =
@@ -45,22 +48,20 @@ module _ (s : System) (b : Branch) where
       let none : n - t ≡ 0 = omega arith in
       ap (λ k. merges_from b (bound_of s) t k ++ Keep b (bound_of s) ∷ []) none
 
-  pub all_offers : (n : ℕ) → offers s b n ≡ Strike b ∷ merges_and_keep s b 0 n
-  all_offers n = refl
+  pub all_offers : (n : ℕ) → Strike b ∷ merges_and_keep s b 0 n ≡ offers s b n
+  all_offers n = ap (λ k. Strike b ∷ (merges_from b (bound_of s) 0 k ++ Keep b (bound_of s) ∷ [])) (less_none n)
 
 -- the last call of a list
-last_of : Call → List Call → Call
+abbrev pub last_of : Call → List Call → Call
 last_of c [] = c
 last_of c (d ∷ ds) = last_of d ds
 
 last_keeps : (s : System) (b : Branch) (c : Call) (t n : ℕ) → last_of c (merges_from b (bound_of s) t n ++ Keep b (bound_of s) ∷ []) ≡ Keep b (bound_of s)
-unfolding last_of
 last_keeps s b c t zero = refl
 last_keeps s b c t (suc n) = last_keeps s b (Merge b t (bound_of s)) (suc t) n
 
 -- where no offer is accepted, the last is refused
 pub last_refused : {s : System} {limit : ℕ} {at after : Standing} {offs made : List Call} {given : List Answer} {end : Option TableFault} → Offered s limit at offs made given end after → (c : Call) (fault : TableFault) → end ≡ Some fault → RefusedBy s limit at (last_of c offs) fault
-unfolding last_of
 last_refused (accepted offer later answer after answered ok) c fault e = absurd (none-some fault e)
 last_refused (refused offer later calls answers fault' end after answered rest) c fault e = last_refused rest offer fault e
 last_refused {s} {limit} {at} (last offer fault' answered) c fault e = subst (λ f. RefusedBy s limit at offer f) (same_Some fault' fault e) answered.0
@@ -91,7 +92,6 @@ keep_ends s limit bound at b Satisfiable is out r = absurd r
 keep_ends s limit bound at b NoRenaming is out r = absurd r
 
 pub offers_end : (s : System) (limit bound : ℕ) (at after : Standing) (b : Branch) (n : ℕ) (made : List Call) (given : List Answer) (fault : TableFault) → s.bound ≡ Some bound → IsOut at b → Offered s limit at (offers s b n) made given (Some fault) after → EndsAs b fault (ending b fault)
-unfolding last_of
 offers_end s limit bound at after b n made given fault is out offered =
     keep_ends s limit bound at b fault is out
     (subst (λ c. RefusedBy s limit at c fault) (last_keeps s b (Strike b) 0 n) (last_refused offered (Strike b) fault refl))
