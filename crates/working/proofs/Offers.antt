@@ -1,6 +1,7 @@
 -- Offers made one after another, as far as they have come.
 use Rattle.std.proofs.Common.{◌≡◌, ◌≢◌, ℕ, zero, suc, ◌+◌, ◌-◌, ◌<◌, ◌≤◌, ◌⊎◌, true, List, [], ◌∷◌, ◌++◌, length, Some, None, Option, Result, Ok, Err, sym, refl, ap, ◌∙◌, subst, inl, inr, arith, unwrap_or}
 use Rattle.std.specs.List.{slice_get}
+use Rattle.std.proofs.lemmas.Bool.{cases_lt}
 use Rattle.std.proofs.lemmas.Option.{none-some, same_Some, slice_get_within}
 use Rattle.fault.specs.declared.TableFault.{TableFault}
 use Rattle.fault.specs.declared.TableFault.TheVariants.{BadMemory, UnsafeStart, NoSuchBranch, NotWaiting, NotOut, HeightAboveBound, NamesExhausted, TermsExhausted, Satisfiable, NoRenaming, UnsafeForm, RowLimit}
@@ -10,13 +11,19 @@ use Rattle.rules.specs.declared.Answer.TheVariants.{Taken, Done, Joined, Holds, 
 use Rattle.rules.specs.declared.Branch.{Branch}
 use Rattle.rules.specs.declared.Call.{Call}
 use Rattle.rules.specs.declared.Call.TheVariants.{Take, GiveBack, Strike, Merge, Keep, Verdict}
+use Rattle.rules.specs.declared.Mark.{Mark}
 use Rattle.rules.specs.Calls.{RefusedBy}
 use Rattle.rules.specs.Promises.{Answered, is_accepted}
 use Rattle.rules.specs.Rules.{IsOut}
 use Rattle.rules.specs.Standing.{Standing, mark_of}
 use Rattle.rules.specs.Working.{bound_of, merges_from, offers, Offered, EndsAs}
 use Rattle.rules.specs.Working.Offered.{accepted, refused, last}
-use Rattle.working.specs.Work.{merges_and_keep, ending}
+use Rattle.table.specs.declared.table.Table.{Table}
+use Rattle.table.specs.declared.ticket.Refusal.{Refusal}
+use Rattle.table.specs.Answers.{answer_of_offer}
+use Rattle.table.specs.Standing.{Stands}
+use Rattle.table.proofs.Marking.{mark_absent, rows_many}
+use Rattle.working.specs.Work.{merges_and_keep, ending, fault_of, Made}
 
 -- where the rest of the offers is made, all are
 abbrev pub Onward : System → ℕ → Standing → List Call → List Call → Type 0
@@ -95,3 +102,70 @@ pub offers_end : (s : System) (limit bound : ℕ) (at after : Standing) (b : Bra
 offers_end s limit bound at after b n made given fault is out offered =
     keep_ends s limit bound at b fault is out
     (subst (λ c. RefusedBy s limit at c fault) (last_keeps s b (Strike b) 0 n) (last_refused offered (Strike b) fault refl))
+
+absurd_less : ⊥ → ⊥
+absurd_less h = h
+
+-- a branch with a mark is one of the table's rows
+pub marked_row : (t : Table) (s : System) (limit : ℕ) (at : Standing) (stands : Stands s limit t at) (b : Branch) (m : Mark) → mark_of at b ≡ Some m → b.row < length at.rows
+marked_row t s limit at stands b m is = by (cases_lt b.row (length at.rows))
+  where
+    by : (b.row < length at.rows) ⊎ (length at.rows ≤ b.row) → b.row < length at.rows
+    by (inl lt) = lt
+    by (inr past) =
+        let many = rows_many t s limit at stands in
+        absurd (none-some m (sym (mark_absent t s limit at stands b (λ there. (let r = there.row in absurd_less (omega (arith, r, many, past))))) ∙ is))
+
+pub bound_is : (s : System) (h : ℕ) → s.bound ≡ Some h → bound_of s ≡ h
+bound_is s h is = ap (λ (o : Option ℕ). unwrap_or o 0) is
+
+module _ (s : System) (limit : ℕ) (at : Standing) (b : Branch) (n h : ℕ) (bound : s.bound ≡ Some h) where
+  abbrev All : List Call
+  All = merges_and_keep s b 0 n
+
+  at_bound : (P : ℕ → Type 0) → P h → P (bound_of s)
+  at_bound P p = subst P (sym (bound_is s h bound)) p
+
+  -- a merge is accepted
+  pub merge_accepted : (t : ℕ) (after : Standing) (new : Table) → t < n → Answered s limit at (Merge b t h) Done after → Onward s limit at All (merges_and_keep s b t n) → Stands s limit new after → Made s limit at All None new
+  merge_accepted t after new lt answered onward stands =
+      let here : Answered s limit at (Merge b t (bound_of s)) Done after = at_bound (λ k. Answered s limit at (Merge b t k) Done after) answered in
+      let rest : Offered s limit at (merges_and_keep s b t n) (Merge b t (bound_of s) ∷ []) (Done ∷ []) None after =
+        subst (λ (offs : List Call). Offered s limit at offs (Merge b t (bound_of s) ∷ []) (Done ∷ []) None after) (sym (merges_step s b t n lt)) (accepted (Merge b t (bound_of s)) (merges_and_keep s b (t + 1) n) Done after here refl) in
+      let all = onward _ _ None after rest in
+      record { made = all.0; given = all.1; after = after; offered = all.2; stands = stands }
+
+  -- a merge is refused, and the next is due
+  pub merge_refused : (t : ℕ) (fault : TableFault) (after : Standing) (new : Table) → t < n → Answered s limit at (Merge b t h) (Refused fault) after → Onward s limit at All (merges_and_keep s b t n) → Stands s limit new after → Stands s limit new at × Onward s limit at All (merges_and_keep s b (t + 1) n)
+  merge_refused t fault after new lt answered onward stands =
+      let here : Answered s limit at (Merge b t (bound_of s)) (Refused fault) at = at_bound (λ k. Answered s limit at (Merge b t k) (Refused fault) at) (answered.0, refl) in
+      (subst (λ (z : Standing). Stands s limit new z) answered.1 stands,
+        onward_next s limit at All (merges_and_keep s b (t + 1) n) (Merge b t (bound_of s)) fault here (subst (Onward s limit at All) (merges_step s b t n lt) onward))
+
+  -- a keep ends the offers
+  pub keep_made : (t : ℕ) (result : Result Unit Refusal) (after : Standing) (new : Table) → n ≤ t → Answered s limit at (Keep b h) (answer_of_offer result) after → Onward s limit at All (merges_and_keep s b t n) → Stands s limit new after → Made s limit at All (fault_of result) new
+  keep_made t (Ok done) after new le answered onward stands =
+      let here : Answered s limit at (Keep b (bound_of s)) Done after = at_bound (λ k. Answered s limit at (Keep b k) Done after) answered in
+      let rest = subst (λ (offs : List Call). Offered s limit at offs (Keep b (bound_of s) ∷ []) (Done ∷ []) None after) (sym (merges_done s b t n le)) (accepted (Keep b (bound_of s)) [] Done after here refl) in
+      let all = onward _ _ None after rest in
+      record { made = all.0; given = all.1; after = after; offered = all.2; stands = stands }
+  keep_made t (Err refusal) after new le answered onward stands =
+      let here : Answered s limit at (Keep b (bound_of s)) (Refused refusal.fault) at = at_bound (λ k. Answered s limit at (Keep b k) (Refused refusal.fault) at) (answered.0, refl) in
+      let rest = subst (λ (offs : List Call). Offered s limit at offs (Keep b (bound_of s) ∷ []) (Refused refusal.fault ∷ []) (Some refusal.fault) at) (sym (merges_done s b t n le)) (last (Keep b (bound_of s)) refusal.fault here) in
+      let all = onward _ _ (Some refusal.fault) at rest in
+      record { made = all.0; given = all.1; after = at; offered = all.2; stands = subst (λ (z : Standing). Stands s limit new z) answered.1 stands }
+
+-- a strike is accepted, or the merges and the keep are due
+pub strike_accepted : (s : System) (limit : ℕ) (at : Standing) (b : Branch) (n joins : ℕ) (after : Standing) (new : Table) → Answered s limit at (Strike b) (Joined joins) after → Stands s limit new after → Made s limit at (offers s b n) None new
+strike_accepted s limit at b n joins after new answered stands =
+    record { made = Strike b ∷ []; given = Joined joins ∷ []; after = after; offered = accepted (Strike b) _ (Joined joins) after answered refl; stands = stands }
+
+pub strike_refused : (s : System) (limit : ℕ) (at : Standing) (b : Branch) (n : ℕ) (fault : TableFault) (end : Option TableFault) (new : Table) → Answered s limit at (Strike b) (Refused fault) at → Made s limit at (merges_and_keep s b 0 n) end new → Made s limit at (offers s b n) end new
+strike_refused s limit at b n fault end new answered m =
+    record {
+      made = Strike b ∷ m.made;
+      given = Refused fault ∷ m.given;
+      after = m.after;
+      offered = subst (λ (offs : List Call). Offered s limit at offs (Strike b ∷ m.made) (Refused fault ∷ m.given) end m.after) (all_offers s b n) (refused (Strike b) (merges_and_keep s b 0 n) m.made m.given fault end m.after answered m.offered);
+      stands = m.stands;
+    }
