@@ -1,26 +1,28 @@
 -- A standing of an open table while the bank's terms stay, and as it grows.
-use Rattle.std.proofs.Common.{◌≡◌, ◌≢◌, ℕ, zero, suc, ◌+◌, ◌^◌, ◌<◌, ◌≤◌, List, [], ◌∷◌, ◌++◌, length, take, map, option_map, slice_index_or, slice_set, Option, Some, None, refl, sym, ap, ap₂, ◌∙◌, subst, arith, length-set, below_more, get_or-set_other, get_or-set_same, length-take-le}
+use Rattle.std.proofs.Common.{◌≡◌, ◌≢◌, ℕ, suc, ◌+◌, ◌^◌, ◌<◌, ◌≤◌, List, [], ◌∷◌, ◌++◌, length, take, map, option_map, slice_index_or, slice_set, Option, Some, None, refl, sym, ap, ap₂, ◌∙◌, subst, arith, length-set, below_more, get_or-set_other, get_or-set_same, length-take-le}
 use Rattle.std.specs.List.{slice_get}
-use Rattle.std.proofs.lemmas.List.{take_more_set, get_or-take, get_or-map, map-append, length-map}
+use Rattle.std.proofs.lemmas.List.{take_more_set, get_or-take, map-append, length-map}
 use Rattle.std.proofs.lemmas.Option.{slice_get-get_or, slice_get-map, slice_get_past}
 use Rattle.sheet.specs.System.{System}
 use Rattle.sheet.specs.View.{sheet_of}
 use Rattle.sheet.specs.declared.sheet.Sheet.{Sheet}
-use Rattle.terms.specs.Terms.{Term}
 use Rattle.terms.specs.declared.TermRecord.{TermRecord}
 use Rattle.terms.specs.Bank.{Bank, Stays, Extends}
-use Rattle.banks.specs.Room.{Holding}
 use Rattle.forms.specs.Rows.{Row}
 use Rattle.rows.specs.declared.row.RowRecord.{RowRecord}
-use Rattle.rows.specs.Records.{row_in, Inside, Sound}
+use Rattle.rows.specs.Records.{row_in, Inside}
 use Rattle.candidates.specs.Outcome.{Kept}
 use Rattle.folding.specs.Matched.{Closed}
 use Rattle.rules.specs.declared.Mark.{Mark}
-use Rattle.table.specs.Memory.{no_row, HasLengths, Fitting, FitsIfOpen}
+use Rattle.table.specs.Memory.{no_row, Fitting, FitsIfOpen}
 use Rattle.table.specs.Offers.{Comparable, Workable}
 use Rattle.table.specs.Standing.{IsOpenWith}
 use Rattle.table.proofs.Lists.{get_taken}
-use Rattle.table.proofs.Staying.{row_stays, inside_more, holding_kept, extends_kept}
+use Rattle.table.proofs.Staying.{row_stays, inside_more}
+
+-- a bank that is kept is extended by nothing
+pub extends_kept : (rs rs' : List TermRecord) (n n' : ℕ) → Bank rs n → Kept rs n rs' n' → Extends rs n rs' n'
+extends_kept rs rs' n n' bank kept = subst (Extends rs n rs') (sym kept.count) (record { bank = kept.bank bank; more = omega arith; stays = kept.records })
 
 -- a row of the table stays one as the bank grows
 pub comparable_more : (s : System) (rs rs' : List TermRecord) (n n' : ℕ) (r : RowRecord) → Extends rs n rs' n' → Comparable s rs n r → Comparable s rs' n' r

@@ -1,14 +1,11 @@
 -- A table with the form of a branch as one row more.
-use Rattle.std.proofs.Common.{◌≡◌, ℕ, ◌+◌, ◌*◌, ◌<◌, ◌≤◌, true, false, List, [], ◌∷◌, ◌++◌, length, take, map, replicate, slice_index_or, slice_set, Some, Ok, Err, Result, refl, sym, ap, ap₂, ◌∙◌, subst, arith, length-set}
-use Rattle.std.proofs.Math.Nat.{mul-le-mul, suc-mul}
+use Rattle.std.proofs.Common.{◌≡◌, ℕ, ◌+◌, ◌*◌, ◌<◌, ◌≤◌, List, [], ◌∷◌, ◌++◌, length, take, map, replicate, slice_set, Some, Ok, Err, Result, ap, ◌∙◌, subst, arith, length-set}
+use Rattle.std.proofs.Math.Nat.{mul-le-mul}
 use Rattle.fault.specs.declared.TableFault.{TableFault}
 use Rattle.sheet.specs.System.{System}
-use Rattle.sheet.specs.View.{sheet_of}
 use Rattle.sheet.specs.declared.sheet.Sheet.{Sheet}
-use Rattle.terms.specs.Terms.{Term}
 use Rattle.terms.specs.declared.TermRecord.{TermRecord}
 use Rattle.terms.specs.Bank.{Bank, Extends}
-use Rattle.banks.specs.Room.{Holding}
 use Rattle.forms.specs.Rows.{Row}
 use Rattle.rows.specs.declared.row.RowRecord.{RowRecord}
 use Rattle.rows.specs.Records.{row_in}
@@ -17,7 +14,7 @@ use Rattle.rules.specs.declared.Mark.{Mark}
 use Rattle.rules.specs.declared.Mark.TheVariants.{Waiting, Kept}
 use Rattle.rules.specs.Standing.{Standing, branches, marked, all_waiting}
 use Rattle.table.specs.declared.table.Table.{Table}
-use Rattle.table.specs.Memory.{Fitting, marks_by_row}
+use Rattle.table.specs.Memory.{marks_by_row}
 use Rattle.table.specs.Offers.{KeptUnlessMade}
 use Rattle.table.specs.Places.{branches_in, IsPlace}
 use Rattle.table.specs.Standing.{Stands}
@@ -25,7 +22,7 @@ use Rattle.table.proofs.Following.{rows_pushed}
 use Rattle.table.proofs.Lists.{more_marks}
 use Rattle.table.proofs.Marking.{marks_changed}
 use Rattle.table.proofs.Offering.{same, fit}
-use Rattle.table.proofs.Staying.{extends_kept}
+use Rattle.table.proofs.Following.{extends_kept}
 
 pub extends_unless_made : (rs : List TermRecord) (n : ℕ) (rs' : List TermRecord) (n' : ℕ) (made : Result RowRecord TableFault) → Bank rs n → KeptUnlessMade rs n rs' n' made → Extends rs n rs' n'
 extends_unless_made rs n rs' n' (Ok r) bank h = h

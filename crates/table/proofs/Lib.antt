@@ -11,4 +11,5 @@ pub mod Offering
 pub mod Growing
 pub mod Running
 pub mod Handing
-pub mod Existing
+pub mod Always
+pub mod Counting

@@ -1,10 +1,10 @@
 -- Reading and counting a list that lies in another, part by part: the marks of rows side by side.
-use Rattle.std.proofs.Common.{◌≡◌, ℕ, zero, suc, ◌+◌, ◌-◌, ◌*◌, ◌<◌, ◌≤◌, Bool, cond, List, [], ◌∷◌, ◌++◌, map, length, take, drop, get_or, replicate, Some, None, Option, inl, inr, ◌⊎◌, refl, sym, ap, ap₂, ◌∙◌, subst, sum, arith, add-one, zero-add, append_assoc}
+use Rattle.std.proofs.Common.{◌≡◌, ℕ, zero, suc, ◌+◌, ◌-◌, ◌*◌, ◌<◌, ◌≤◌, Bool, cond, List, [], ◌∷◌, ◌++◌, map, length, take, drop, replicate, Some, None, Option, refl, sym, ap, ap₂, ◌∙◌, sum, arith, add-one, zero-add, append_assoc}
 use Rattle.std.specs.List.{count_by, sum_by, slice_get}
 use Rattle.std.specs.Prelude.{slice_set, slice_index_or}
 use Rattle.std.proofs.Math.Nat.{zero-mul, suc-mul}
 use Rattle.std.proofs.Math.Seq.{take-take, drop-drop, take-set-lt, take-add, drop-append_seam}
-use Rattle.std.proofs.lemmas.List.{take_more_set, replicate_more, take-set-le, drop-set-lt, drop-set-add, drop-take, take-append-le, length-take-le, length-replicate, take-append-drop}
+use Rattle.std.proofs.lemmas.List.{take_more_set, replicate_more, take-set-le, drop-set-lt, drop-set-add, drop-take, take-append-le, length-take-le}
 use Rattle.std.proofs.lemmas.List.Sums.{sum_by-cons, sum_by-append, sum-map}
 use Rattle.std.proofs.lemmas.Option.{slice_get_past, slice_get-get_or}
 use Rattle.rules.specs.declared.Mark.{Mark}

@@ -1,5 +1,5 @@
 -- The marks of a table and of the standing that it stands for.
-use Rattle.std.proofs.Common.{◌≡◌, ◌≢◌, ℕ, zero, suc, Bool, sum, map, ◌+◌, ◌*◌, ◌<◌, ◌≤◌, ◌⊎◌, List, [], ◌∷◌, length, take, drop, Some, None, Option, Ok, Err, Result, inl, inr, refl, sym, ap, ap₂, ◌∙◌, subst, arith}
+use Rattle.std.proofs.Common.{◌≡◌, ◌≢◌, ℕ, zero, suc, Bool, sum, map, ◌+◌, ◌*◌, ◌<◌, ◌≤◌, ◌⊎◌, List, length, take, drop, Some, None, Option, Ok, Err, inl, inr, refl, sym, ap, ◌∙◌, subst, arith}
 use Rattle.std.specs.List.{slice_get, count_by}
 use Rattle.std.proofs.Math.Nat.{zero-mul}
 use Rattle.std.proofs.lemmas.List.{length-map, length-take-le}
@@ -22,7 +22,7 @@ use Rattle.table.specs.declared.mark.Event.{Event}
 use Rattle.table.specs.declared.table.Table.{Table}
 use Rattle.table.specs.Marks.{next_mark, if_out, if_waiting}
 use Rattle.table.specs.Memory.{FitsIfOpen, marks_by_row}
-use Rattle.table.specs.Places.{branches_in, IsThere, Absent, IsPlace, mark_at, Turned}
+use Rattle.table.specs.Places.{branches_in, Absent, IsPlace, mark_at, Turned}
 use Rattle.table.specs.Standing.{IsOpenWith, Stands}
 use Rattle.table.proofs.Lists.{row_of_marks, reads, writes, no_row_there, no_branch_there, counted}
 

@@ -1,24 +1,20 @@
 -- What the work on a branch answers is what the rules say of the branch.
-use Rattle.std.proofs.Common.{◌≡◌, ◌≢◌, ℕ, ◌+◌, ◌<◌, ◌≤◌, Bool, true, false, List, [], ◌∷◌, ◌++◌, length, take, map, slice_index_or, Option, Some, None, Ok, Err, Result, inl, inr, ◌⊎◌, refl, sym, ap, ◌∙◌, subst, arith}
+use Rattle.std.proofs.Common.{◌≡◌, ℕ, ◌<◌, ◌≤◌, Bool, true, List, length, take, map, slice_index_or, Some, None, Ok, Err, inl, inr, sym, ap, ◌∙◌, subst}
 use Rattle.std.specs.List.{slice_get}
-use Rattle.std.proofs.lemmas.Option.{none-some}
 use Rattle.fault.specs.declared.TableFault.{TableFault}
 use Rattle.fault.specs.declared.TableFault.TheVariants.{NamesExhausted, TermsExhausted, Satisfiable, NoRenaming, UnsafeForm, RowLimit}
 use Rattle.sheet.specs.System.{System}
 use Rattle.sheet.specs.View.{sheet_of}
 use Rattle.sheet.specs.declared.sheet.Sheet.{Sheet}
-use Rattle.terms.specs.Terms.{Term}
 use Rattle.terms.specs.declared.TermRecord.{TermRecord}
-use Rattle.terms.specs.Bank.{Bank, Stays, Extends}
 use Rattle.banks.specs.Room.{Holding}
 use Rattle.forms.specs.Rows.{Row}
-use Rattle.forms.specs.Counted.{Built, made}
 use Rattle.rows.specs.declared.row.RowRecord.{RowRecord}
 use Rattle.rows.specs.Records.{row_in}
 use Rattle.candidates.specs.Outcome.{Kept}
 use Rattle.rules.specs.declared.Branch.{Branch}
 use Rattle.rules.specs.Standing.{Standing}
-use Rattle.rules.specs.Rules.{IsOut, IsHigh, IsWithin, BuildsFrom, Builds, Strikes, Merges, Keeps, StrikeRefused, MergeRefused, KeepRefused}
+use Rattle.rules.specs.Rules.{IsOut, IsHigh, IsWithin, Strikes, Merges, Keeps, StrikeRefused, MergeRefused, KeepRefused}
 use Rattle.rules.specs.Promises.{FewerJoins}
 use Rattle.table.specs.declared.table.Table.{Table}
 use Rattle.table.specs.Memory.{no_row, Fitting}

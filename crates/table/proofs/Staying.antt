@@ -55,10 +55,6 @@ holding_stays rs rs' n ts h bank stays =
 pub holding_kept : (rs rs' : List TermRecord) (n n' : ℕ) (ts : List Term) → Holding rs n ts → Kept rs n rs' n' → Holding rs' n' ts
 holding_kept rs rs' n n' ts h kept = subst (λ (m : ℕ). Holding rs' m ts) (sym kept.count) (holding_stays rs rs' n ts h (kept.bank h.bank) kept.records)
 
--- a bank that is kept is extended by nothing
-pub extends_kept : (rs rs' : List TermRecord) (n n' : ℕ) → Bank rs n → Kept rs n rs' n' → Extends rs n rs' n'
-extends_kept rs rs' n n' bank kept = subst (Extends rs n rs') (sym kept.count) (record { bank = kept.bank bank; more = omega arith; stays = kept.records })
-
 -- a count that is lent on is the same count
 module _ (rs : List TermRecord) (lent count : Count) (is : lent ≡ count) where
   pub holding_lent : (ts : List Term) → Holding rs count.terms ts → Holding rs lent.terms ts

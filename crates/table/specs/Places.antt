@@ -37,5 +37,8 @@ mark_at table place = slice_index_or table.marks.now place Waiting
 
 -- the place of the branch's mark and what the event makes of it; or why it may not come
 abbrev pub Turned : Table → Branch → Event → Result (ℕ × Mark) TableFault → Type 0
-Turned table b event (Ok (place, mark)) = IsPlace table b place × (next_mark event (mark_at table place) ≡ Ok mark)
-Turned table b event (Err e) = ((e ≡ NotOut) × Absent table b) ⊎ ((place : ℕ) × IsPlace table b place × (next_mark event (mark_at table place) ≡ Err e))
+Turned table b event (Ok (place, mark)) =
+    IsPlace table b place × (next_mark event (mark_at table place) ≡ Ok mark)
+Turned table b event (Err e) =
+    ((e ≡ NotOut) × Absent table b)
+    ⊎ ((place : ℕ) × IsPlace table b place × (next_mark event (mark_at table place) ≡ Err e))

@@ -8,6 +8,7 @@ use Rattle.banks.specs.Room.{Holding}
 use Rattle.rows.specs.Records.{row_in}
 use Rattle.rules.specs.declared.Answer.{Answer}
 use Rattle.rules.specs.declared.Call.{Call}
+use Rattle.rules.specs.Calls.{ComesTo}
 use Rattle.rules.specs.Laws.{Played}
 use Rattle.rules.specs.Promises.{Answered, Opens, OpenRefused}
 use Rattle.rules.specs.Standing.{Standing, branches, opening, unopened}
@@ -26,6 +27,10 @@ pub record Stands (s : System) (limit : ℕ) (table : Table) (at : Standing) : T
   pub marks : marks_by_row (branches s) table.used table.marks.now ≡ at.marks
   pub terms : Holding table.bank.now table.count.terms at.terms
 
+-- each table stands for a standing, so that what is said of those that it stands for is never said of none
+abbrev pub AlwaysStands : Type 0
+AlwaysStands = (table : Table) → (s : System) × (limit : ℕ) × (at : Standing) × Stands s limit table at
+
 -- from every standing that the table stood for, the call and its answer lead by the rules to one that it stands for now
 abbrev pub Performs : Table → Call → Answer → Table → Type 0
 Performs old call answer new =
@@ -38,9 +43,14 @@ PlayedBy old calls answers new =
     (s : System) (limit : ℕ) (at : Standing) → Stands s limit old at
     → (after : Standing) × Played s limit at calls answers after × Stands s limit new after
 
+-- the table stands for what the calls come to
+abbrev pub LeftBy : System → ℕ → List Call → Table → Type 0
+LeftBy s limit calls table = (at : Standing) → ComesTo s limit calls at → Stands s limit table at
+
 -- the memory of a table has the lengths that an open one needs
 abbrev pub Fits : Table → Type 0
-Fits table = HasLengths (length table.bank.now) (length table.rows.now) (length table.marks.now) (length table.work.now)
+Fits table =
+    HasLengths (length table.bank.now) (length table.rows.now) (length table.marks.now) (length table.work.now)
 
 -- the table has no rows, whatever sheet and limit were asked
 abbrev pub IsUnopened : Table → Type 0
@@ -48,7 +58,10 @@ IsUnopened table = (s : System) (limit : ℕ) → Stands s limit table unopened
 
 -- opened on the sheet with the limit; or refused as the rules say, and then without rows
 abbrev pub Opened : System → ℕ → Table → Table → Result Unit TableFault → Type 0
-Opened s limit old new result = MatchResult result (λ _. Opens s limit (Fits old) × Stands s limit new (opening s)) (λ e. OpenRefused s limit (Fits old) e × IsUnopened new)
+Opened s limit old new result =
+    MatchResult result
+    (λ _. Opens s limit (Fits old) × Stands s limit new (opening s))
+    (λ e. OpenRefused s limit (Fits old) e × IsUnopened new)
 
 -- how many rows a table has
 abbrev pub rows_of : Table → ℕ
@@ -57,10 +70,3 @@ rows_of table = table.used
 -- what is true of each standing that the table stands for
 abbrev pub Tells : Table → (System → Standing → Type 0) → Type 0
 Tells table P = (s : System) (limit : ℕ) (at : Standing) → Stands s limit table at → P s at
-
--- a table stands for some standing
-pub record StandsForSome (table : Table) : Type 0 where
-  pub system : System
-  pub limit : ℕ
-  pub at : Standing
-  pub stands : Stands system limit table at

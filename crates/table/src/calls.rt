@@ -1,14 +1,10 @@
 //! Calls by name, and lists of calls.
-ghost use Rattle.std.specs.Prelude.{◌≡◌, ℕ, map, MatchResult, IfOk, IfErr};
-ghost use Rattle.sheet.specs.System.{System};
+ghost use Rattle.std.specs.Prelude.{◌≡◌, map, MatchResult, IfOk, IfErr};
 ghost use Rattle.sheet.specs.View.{sheet_of};
-ghost use Rattle.rules.specs.Calls.{ComesTo};
-ghost use Rattle.rules.specs.Laws.{Played};
 ghost use Rattle.rules.specs.Promises.{Opens, OpenRefused, Promises};
-ghost use Rattle.rules.specs.Standing.{Standing};
 ghost use Rattle.rules.specs.declared.Answer.{Answer};
 ghost use Rattle.table.specs.Answers.{answer_of, call_of};
-ghost use Rattle.table.specs.Standing.{Stands, Performs, PlayedBy, Fits, IsUnopened};
+ghost use Rattle.table.specs.Standing.{Performs, PlayedBy, LeftBy, Fits, IsUnopened};
 
 use crate::table::Table;
 use crate::ticket::{Refusal, Ticket};
@@ -18,12 +14,13 @@ use rules::{Answer, Call, Entry};
 use sheet::Sheet;
 
 impl Table<'_> {
-    /// Makes one call. A call that names a ticket's branch is made with a ticket for it, as one from another table would be.
+    /// Makes one call. A call that names a ticket's branch is made with a ticket for it, as one from another table
+    /// would be.
     pub fn make(&mut self, call: Call) -> Answer
         ensures { Performs self.old call result self.new }
     {
         match call {
-            Call::Take(branch) => match self.take(branch) {
+            Call::Take(branch) => match self.take(branch.row, branch.number) {
                 Ok(Ticket { branch }) => Answer::Taken(branch),
                 Err(fault) => Answer::Refused(fault),
             },
@@ -57,7 +54,8 @@ impl Table<'_> {
     /// Makes the calls in turn, each answered in its place.
     pub fn make_all(&mut self, entries: &mut [Entry])
         ensures calls { map call_of entries.new ≡ map call_of entries.old }
-        ensures played { PlayedBy self.old (map call_of entries.new) (map answer_of entries.new) self.new }
+        ensures played { PlayedBy self.old (map call_of entries.new)
+            (map answer_of entries.new) self.new }
     {
         for k in 0..entries.len() {
             entries[k].answer = self.make(entries[k].call);
@@ -72,8 +70,13 @@ impl Table<'_> {
         entries: &mut [Entry],
     ) -> Result<(), TableFault>
         ensures calls { map call_of entries.new ≡ map call_of entries.old }
-        ensures promised { MatchResult result (λ _. Opens (sheet_of sheet) limit (Fits self.old) × Promises (sheet_of sheet) limit (map call_of entries.new) (map answer_of entries.new)) (λ e. OpenRefused (sheet_of sheet) limit (Fits self.old) e × (entries.new ≡ entries.old)) }
-        ensures left { IfOk result (λ _. (at : Standing) → ComesTo (sheet_of sheet) limit (map call_of entries.new) at → Stands (sheet_of sheet) limit self.new at) }
+        ensures opened { MatchResult result (λ _. Opens (sheet_of sheet) limit (Fits self.old))
+            (OpenRefused (sheet_of sheet) limit (Fits self.old)) }
+        ensures promised { IfOk result (λ _. Promises (sheet_of sheet) limit
+            (map call_of entries.new) (map answer_of entries.new)) }
+        ensures left { IfOk result (λ _. LeftBy (sheet_of sheet) limit
+            (map call_of entries.new) self.new) }
+        ensures unanswered { IfErr result (λ _. entries.new ≡ entries.old) }
         ensures refused { IfErr result (λ _. IsUnopened self.new) }
     {
         self.open(sheet, limit)?;

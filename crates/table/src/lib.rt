@@ -3,6 +3,8 @@
 //! from every standing that the table stood for, by the rules, to one that it stands for now.
 #![tactic(auto)]
 
+ghost use Rattle.table.specs.Standing.{AlwaysStands};
+
 mod calls;
 mod mark;
 mod offers;
@@ -17,3 +19,8 @@ mod verdict;
 pub use table::Table;
 pub use ticket::{Refusal, Ticket};
 pub use verdict::Verdict;
+
+/// Each table stands for a standing, whatever was called on it.
+pub fn always_stands()
+    ensures { AlwaysStands }
+{}

@@ -22,7 +22,8 @@ pub(crate) fn branches_of(sheet: &Sheet) -> usize
 /// So many marks wait, from the place `from` on.
 pub(crate) fn wait(marks: &mut [Mark], from: usize, branches: usize)
     requires { from + branches ≤ length marks.old }
-    ensures { take (from + branches) marks.new ≡ take from marks.old ++ replicate branches Waiting }
+    ensures { take (from + branches) marks.new
+        ≡ take from marks.old ++ replicate branches Waiting }
 {
     for k in from..from + branches {
         marks[k] = Mark::Waiting;

@@ -2,7 +2,7 @@
 //! then its ticket is spent, or handed back.
 ghost use Rattle.std.specs.Prelude.{◌≡◌, IfErr};
 ghost use Rattle.rules.specs.declared.Call.{Call};
-ghost use Rattle.table.specs.Answers.{answer_of_take, answer_of_offer, answer_of_strike, done, joined};
+ghost use Rattle.table.specs.Answers.{branch_of, answer_of_take, answer_of_offer, answer_of_strike, done, joined};
 ghost use Rattle.table.specs.Standing.{Performs};
 
 use crate::mark::{Event, next_mark};
@@ -15,9 +15,11 @@ use rules::Branch;
 
 impl Table<'_> {
     /// Takes a branch that waits: the ticket names it.
-    pub fn take(&mut self, branch: Branch) -> Result<Ticket, TableFault>
-        ensures { Performs self.old (Call.Take branch) (answer_of_take result) self.new }
+    pub fn take(&mut self, row: u8, number: u8) -> Result<Ticket, TableFault>
+        ensures { Performs self.old (Call.Take (record { row = row; number = number }))
+            (answer_of_take result) self.new }
     {
+        let branch = Branch { row, number };
         let Some(place) = self.place(branch) else {
             return Err(TableFault::NoSuchBranch);
         };
@@ -35,7 +37,8 @@ impl Table<'_> {
 
     /// Gives a branch back: it waits again.
     pub fn give_back(&mut self, ticket: Ticket) -> Result<(), Refusal>
-        ensures performs { Performs self.old (Call.GiveBack ticket.branch) (answer_of_offer result) self.new }
+        ensures performs { Performs self.old (Call.GiveBack (branch_of ticket))
+            (answer_of_offer result) self.new }
         ensures unspent { IfErr result (λ refusal. refusal.ticket ≡ ticket) }
     {
         let made = self.give_branch(ticket.branch);
@@ -68,7 +71,8 @@ impl Table<'_> {
 
     /// Strikes a branch that no meaning enters, and tells how often two classes were joined for that.
     pub fn strike(&mut self, ticket: Ticket) -> Result<u16, Refusal>
-        ensures performs { Performs self.old (Call.Strike ticket.branch) (answer_of_strike result) self.new }
+        ensures performs { Performs self.old (Call.Strike (branch_of ticket))
+            (answer_of_strike result) self.new }
         ensures unspent { IfErr result (λ refusal. refusal.ticket ≡ ticket) }
     {
         let made = self.strike_branch(ticket.branch);
@@ -110,7 +114,8 @@ impl Table<'_> {
 
     /// Merges a branch into the target row, which takes the form of the branch at the height.
     pub fn merge(&mut self, ticket: Ticket, target: u8, height: u8) -> Result<(), Refusal>
-        ensures performs { Performs self.old (Call.Merge ticket.branch target height) (answer_of_offer result) self.new }
+        ensures performs { Performs self.old (Call.Merge (branch_of ticket) target height)
+            (answer_of_offer result) self.new }
         ensures unspent { IfErr result (λ refusal. refusal.ticket ≡ ticket) }
     {
         let made = self.merge_branch(ticket.branch, target, height);
@@ -152,7 +157,8 @@ impl Table<'_> {
 
     /// Keeps the form of a branch at the height as a new row, each of whose branches waits.
     pub fn keep(&mut self, ticket: Ticket, height: u8) -> Result<(), Refusal>
-        ensures performs { Performs self.old (Call.Keep ticket.branch height) (answer_of_offer result) self.new }
+        ensures performs { Performs self.old (Call.Keep (branch_of ticket) height)
+            (answer_of_offer result) self.new }
         ensures unspent { IfErr result (λ refusal. refusal.ticket ≡ ticket) }
     {
         let made = self.keep_branch(ticket.branch, height);

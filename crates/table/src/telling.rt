@@ -1,7 +1,7 @@
 //! What a table tells, without changing it.
 ghost use Rattle.std.specs.Prelude.{◌≡◌, ◌<◌, ◌≤◌, length, IsSome, Some, count_by};
 ghost use Rattle.rules.specs.Standing.{branches, mark_of, counts_of, is_struck, is_merged, is_kept};
-ghost use Rattle.table.specs.Standing.{StandsForSome, Tells, rows_of};
+ghost use Rattle.table.specs.Standing.{Tells, rows_of};
 
 use crate::table::Table;
 use crate::verdict::{out_in, waiting_in};
@@ -27,12 +27,11 @@ fn kept_in(marks: &[Mark]) -> usize
 }
 
 impl Table<'_> {
-    /// How many rows the table has. Whatever was done with it, it stands for some standing of the rules.
+    /// How many rows the table has.
     pub fn rows(&self) -> u8
         ensures number { result ≡ rows_of self.now }
         ensures few { result ≤ 64 }
         ensures rows { Tells self.now (λ s at. result ≡ length at.rows) }
-        ensures stands { StandsForSome self.now }
     {
         self.used
     }

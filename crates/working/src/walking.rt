@@ -26,7 +26,7 @@ fn ending(branch: Branch, fault: TableFault) -> Outcome
 fn work_branch(table: &mut Table, branch: Branch) -> Option<Outcome>
     ensures { BranchWorked table.old branch table.new result }
 {
-    let Ok(ticket) = table.take(branch) else {
+    let Ok(ticket) = table.take(branch.row, branch.number) else {
         return None;
     };
     let Err(Refusal { fault, ticket }) = settle(table, ticket) else {

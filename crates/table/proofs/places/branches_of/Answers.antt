@@ -1,4 +1,4 @@
-use Rattle.std.proofs.Common.{◌≤◌, ◌^◌, arith, rules, pow_mono}
+use Rattle.std.proofs.Common.{◌≤◌, ◌^◌, rules, pow_mono}
 use Rattle.sheet.specs.View.{sheet_of}
 use Rattle.sheet.proofs.Fewness.{few_questions}
 use Rattle.table.proofs.places.branches_of.Goals as goal

@@ -1,4 +1,4 @@
-use Rattle.std.proofs.Common.{◌≡◌, ◌-◌, ◌++◌, take, replicate, length}
+use Rattle.std.proofs.Common.{◌≡◌, ◌-◌, ◌++◌, take, replicate}
 use Rattle.rules.specs.declared.Mark.TheVariants.{Waiting}
 use Rattle.table.proofs.places.wait.Given as goal
 

@@ -1,4 +1,4 @@
-use Rattle.std.proofs.Common.{◌≡◌, map, refl, subst}
+use Rattle.std.proofs.Common.{map, refl, subst}
 use Rattle.std.proofs.lemmas.Result.{err_from_is_err_and}
 use Rattle.sheet.specs.View.{sheet_of}
 use Rattle.sheet.proofs.Fewness.{lawful_sheet}
@@ -12,7 +12,7 @@ use Rattle.table.proofs.table.Table.answer_all.Goals as goal
 pub returns-in_err-open : goal.returns-in_err-open
 returns-in_err-open c =
     let p = err_from_is_err_and c.from_residual.result c.from_residual.ensures.1 in
-    rw (p.1, p.2) (record { calls = refl; promised = (c.in_err-open.ensures.0, refl); left = tt; refused = c.in_err-open.ensures.1 })
+    rw (p.1, p.2) (record { calls = refl; opened = c.in_err-open.ensures.0; promised = tt; left = tt; unanswered = refl; refused = c.in_err-open.ensures.1 })
 
 pub returns : goal.returns
 returns c =
@@ -23,7 +23,9 @@ returns c =
     let run = c.make_all.ensures.played s c.args.limit (opening s) c.in_ok-open.ensures.1 in
     record {
       calls = c.make_all.ensures.calls;
-      promised = (opens, keeping s (lawful_sheet s c.args.sheet.lawful) opens.3 c.args.limit calls answers run.0 run.1);
+      opened = opens;
+      promised = keeping s (lawful_sheet s c.args.sheet.lawful) opens.3 c.args.limit calls answers run.0 run.1;
       left = λ at comes. subst (λ (x : Standing). Stands s c.args.limit c.make_all.new.self x) (played_alone s c.args.limit calls answers run.0 at run.1 comes) run.2;
+      unanswered = tt;
       refused = tt;
     }

@@ -3,7 +3,7 @@ use Rattle.std.specs.List.{count_by}
 use Rattle.rules.specs.declared.Mark.{Mark}
 use Rattle.rules.specs.Standing.{is_waiting, is_out, is_struck, is_merged, is_kept}
 use Rattle.table.specs.Places.{branches_in}
-use Rattle.table.proofs.Existing.{same_counts}
+use Rattle.table.proofs.Counting.{same_counts}
 use Rattle.table.proofs.Marking.{counts, rows_many}
 use Rattle.table.proofs.table.Table.counts.Goals as goal
 

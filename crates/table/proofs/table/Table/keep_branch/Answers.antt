@@ -1,15 +1,14 @@
-use Rattle.std.proofs.Common.{◌≡◌, ◌≤◌, ◌<◌, ◌+◌, ◌*◌, ◌++◌, ◌∷◌, [], ℕ, Bool, true, false, leb, length, refl, sym, ap, ◌∙◌, subst, slice_index_or, slice_set, length-set, arith, rules}
+use Rattle.std.proofs.Common.{◌≡◌, ◌≤◌, ◌<◌, ◌++◌, ◌∷◌, [], true, leb, length, refl, ◌∙◌, subst, slice_index_or, slice_set, length-set, arith}
 use Rattle.std.proofs.lemmas.Bool.{leb-true, leb-false}
 use Rattle.std.proofs.lemmas.Result.{err_from_is_err_and}
 use Rattle.sheet.specs.System.{System}
-use Rattle.sheet.specs.View.{sheet_of}
 use Rattle.banks.proofs.Gaining.{holding_own}
 use Rattle.rows.specs.Records.{row_in}
 use Rattle.rules.specs.declared.Mark.TheVariants.{Kept}
 use Rattle.rules.specs.Standing.{marked, all_waiting}
 use Rattle.table.specs.declared.mark.Event.TheVariants.{Keep}
 use Rattle.table.specs.Memory.{no_row}
-use Rattle.table.specs.Offers.{Proposed, KeptUnlessMade}
+use Rattle.table.specs.Offers.{Proposed}
 use Rattle.table.proofs.Marking.{offered, not_offered, rows_many}
 use Rattle.table.proofs.Following.{fitting, fits, fitting_more, fitting_pushed}
 use Rattle.table.proofs.Offering.{same, same_limit, row_here, high, not_high, rows_kept, terms_kept, kept, not_kept}

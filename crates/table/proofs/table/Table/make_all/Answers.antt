@@ -1,10 +1,9 @@
-use Rattle.std.proofs.Common.{◌≡◌, ℕ, ◌<◌, ◌≤◌, List, take, map, length, refl, sym, ap, ◌∙◌, subst, arith, slice_index_or, rules}
+use Rattle.std.proofs.Common.{◌≡◌, ◌≤◌, take, map, length, refl, ◌∙◌, arith, slice_index_or}
 use Rattle.std.proofs.lemmas.List.{length-map, take_all}
 use Rattle.rules.specs.declared.Entry.{Entry}
 use Rattle.rules.specs.declared.Answer.TheVariants.{Taken}
 use Rattle.rules.specs.declared.Call.TheVariants.{Take}
 use Rattle.table.specs.Answers.{answer_of, call_of}
-use Rattle.table.specs.Standing.{PlayedBy}
 use Rattle.table.proofs.Running.{calls_stay, run_more}
 use Rattle.table.proofs.table.Table.make_all.Goals as goal
 

@@ -1,8 +1,7 @@
-use Rattle.std.proofs.Common.{◌≡◌, ◌≤◌, ℕ, length, refl, sym, ap, ◌∙◌, subst, slice_index_or, length-set, arith}
+use Rattle.std.proofs.Common.{◌≤◌, length, refl, sym, ap, ◌∙◌, subst, slice_index_or, length-set, arith}
 use Rattle.std.proofs.lemmas.Option.{none-some, slice_get_past}
 use Rattle.std.proofs.lemmas.Result.{err_from_is_err_and}
 use Rattle.sheet.specs.System.{System}
-use Rattle.sheet.specs.View.{sheet_of}
 use Rattle.rows.specs.Records.{row_in}
 use Rattle.rules.specs.declared.Mark.TheVariants.{Merged}
 use Rattle.rules.specs.Standing.{marked}
@@ -11,8 +10,8 @@ use Rattle.table.specs.Memory.{no_row}
 use Rattle.table.specs.Offers.{Covered}
 use Rattle.table.proofs.Marking.{offered, not_offered, marks_changed, rows_many}
 use Rattle.table.proofs.Following.{fitting, fits, fitting_more}
-use Rattle.table.proofs.Offering.{same, row_here, no_row_here, high, not_high, rows_kept, terms_kept, merged, not_merged}
-use Rattle.table.proofs.Staying.{extends_kept}
+use Rattle.table.proofs.Offering.{same, row_here, high, not_high, rows_kept, terms_kept, merged, not_merged}
+use Rattle.table.proofs.Following.{extends_kept}
 use Rattle.table.proofs.table.Table.merge_branch.Goals as goal
 
 pub returns-in_err-place : goal.returns-in_err-place

@@ -1,8 +1,6 @@
-use Rattle.std.proofs.Common.{◌≡◌, ℕ, refl, ap, ◌∙◌, subst, slice_index_or, length-set, arith}
+use Rattle.std.proofs.Common.{refl, ap, subst, slice_index_or}
 use Rattle.std.proofs.lemmas.Result.{err_from_is_err_and}
 use Rattle.sheet.specs.System.{System}
-use Rattle.sheet.specs.View.{sheet_of}
-use Rattle.terms.specs.declared.Count.{Count}
 use Rattle.rows.specs.Records.{row_in}
 use Rattle.rules.specs.declared.Mark.TheVariants.{Struck}
 use Rattle.rules.specs.Standing.{marked}
@@ -12,7 +10,7 @@ use Rattle.table.specs.Offers.{Refuted}
 use Rattle.table.proofs.Marking.{offered, not_offered, marks_changed}
 use Rattle.table.proofs.Following.{fitting, fits, fitting_more}
 use Rattle.table.proofs.Offering.{same, row_here, rows_kept, terms_kept, struck, not_struck}
-use Rattle.table.proofs.Staying.{extends_kept}
+use Rattle.table.proofs.Following.{extends_kept}
 use Rattle.table.proofs.table.Table.strike_branch.Goals as goal
 
 pub returns-in_err-place : goal.returns-in_err-place

@@ -1,22 +1,25 @@
-use Rattle.std.proofs.Common.{◌≡◌, refl, sym, ap, ◌∙◌}
+use Rattle.std.proofs.Common.{refl, sym, ap}
 use Rattle.std.proofs.lemmas.Result.{err_from_is_err_and}
-use Rattle.rules.specs.declared.Mark.TheVariants.{Out}
+use Rattle.rules.specs.declared.Branch.{Branch}
 use Rattle.rules.specs.Standing.{marked}
 use Rattle.table.proofs.Marking.{mark_absent, marks_changed, taken, not_taken}
 use Rattle.table.proofs.table.Table.take.Goals as goal
 
 pub returns-in_default : goal.returns-in_default
-returns-in_default c = λ s limit at stands. (at, (mark_absent c.args.self.now s limit at stands c.args.branch c.in_default.ensures, refl), stands)
+returns-in_default c = λ s limit at stands.
+    let b : Branch = record { row = c.args.row; number = c.args.number } in
+    (at, (mark_absent c.args.self.now s limit at stands b c.in_default.ensures, refl), stands)
 
 pub returns-in_err-self : goal.returns-in_err-self
 returns-in_err-self c = λ s limit at stands.
+    let b : Branch = record { row = c.args.row; number = c.args.number } in
     let p = err_from_is_err_and c.from_residual.result c.from_residual.ensures.1 in
-    rw (p.1, p.2) (at, (not_taken c.args.self.now s limit at stands c.args.branch c.in-Some.place c.in_err-self.field-0.0 c.in-Some.ensures (sym c.in_err-self.ensures), refl), stands)
+    rw (p.1, p.2) (at, (not_taken c.args.self.now s limit at stands b c.in-Some.place c.in_err-self.field-0.0 c.in-Some.ensures (sym c.in_err-self.ensures), refl), stands)
 
 pub returns : goal.returns
 returns c = λ s limit at stands.
     let t = c.args.self.now in
-    let b = c.args.branch in
+    let b : Branch = record { row = c.args.row; number = c.args.number } in
     let p = c.in-Some.ensures in
     let w = taken t s limit at stands b c.in-Some.place c.in_ok-self.field-0 p (sym c.in_ok-self.ensures) in (
       marked at b c.in_ok-self.field-0,

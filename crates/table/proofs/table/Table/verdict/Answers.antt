@@ -1,6 +1,5 @@
-use Rattle.std.proofs.Common.{◌≡◌, ℕ, ◌+◌, ◌*◌, Bool, List, take, length, refl, sym, ap, ◌∙◌, arith}
+use Rattle.std.proofs.Common.{◌≡◌, ℕ, ◌*◌, take, length, refl, ap, ◌∙◌, arith}
 use Rattle.std.specs.List.{count_by}
-use Rattle.rules.specs.declared.Mark.{Mark}
 use Rattle.rules.specs.Standing.{waiting, out, is_waiting, is_out}
 use Rattle.table.specs.Places.{branches_in}
 use Rattle.table.proofs.Marking.{counts, rows_many, open_or_none}
