@@ -1,2 +1,3 @@
 pub mod Offers
 pub mod Walks
+pub mod Due

@@ -5,7 +5,10 @@ use Rattle.std.proofs.lemmas.Bool.{cases_lt}
 use Rattle.std.proofs.lemmas.Option.{none-some, same_Some, slice_get_within}
 use Rattle.fault.specs.declared.TableFault.{TableFault}
 use Rattle.fault.specs.declared.TableFault.TheVariants.{BadMemory, UnsafeStart, NoSuchBranch, NotWaiting, NotOut, HeightAboveBound, NamesExhausted, TermsExhausted, Satisfiable, NoRenaming, UnsafeForm, RowLimit}
+use Rattle.sheet.specs.declared.sheet.Sheet.{Sheet}
 use Rattle.sheet.specs.System.{System}
+use Rattle.terms.specs.declared.TermRecord.{TermRecord}
+use Rattle.rows.specs.declared.row.RowRecord.{RowRecord}
 use Rattle.rules.specs.declared.Answer.{Answer}
 use Rattle.rules.specs.declared.Answer.TheVariants.{Taken, Done, Joined, Holds, Open, Refused}
 use Rattle.rules.specs.declared.Branch.{Branch}
@@ -21,7 +24,8 @@ use Rattle.rules.specs.Working.Offered.{accepted, refused, last}
 use Rattle.table.specs.declared.table.Table.{Table}
 use Rattle.table.specs.declared.ticket.Refusal.{Refusal}
 use Rattle.table.specs.Answers.{answer_of_offer}
-use Rattle.table.specs.Standing.{Stands}
+use Rattle.table.specs.Memory.{FitsIfOpen}
+use Rattle.table.specs.Standing.{IsOpenWith, Stands}
 use Rattle.table.proofs.Marking.{mark_absent, rows_many}
 use Rattle.working.specs.Work.{merges_and_keep, ending, fault_of, Made}
 
@@ -169,3 +173,13 @@ strike_refused s limit at b n fault end new answered m =
       offered = subst (λ (offs : List Call). Offered s limit at offs (Strike b ∷ m.made) (Refused fault ∷ m.given) end m.after) (all_offers s b n) (refused (Strike b) (merges_and_keep s b 0 n) m.made m.given fault end m.after answered m.offered);
       stands = m.stands;
     }
+
+bound_by : (o : Option Sheet) (s : System) (kept limit : ℕ) (rs : List TermRecord) (n : ℕ) (rows : List RowRecord) (used most : ℕ) (marks : List Mark) (work : List ℕ) → FitsIfOpen o rs n rows used most marks work → IsOpenWith o kept s limit → 0 < used → (bound : ℕ) × (s.bound ≡ Some bound)
+bound_by None s kept limit rs n rows used most marks work fits opened some = absurd (omega (arith, fits.rows, some))
+bound_by (Some sheet) s kept limit rs n rows used most marks work fits opened some = (sheet.bound, ap (λ (z : System). z.bound) (sym opened.0))
+
+-- the sheet of a table with rows has a height bound
+pub bound_there : (t : Table) (s : System) (limit : ℕ) (at : Standing) (stands : Stands s limit t at) → 0 < length at.rows → (bound : ℕ) × (s.bound ≡ Some bound)
+bound_there t s limit at stands some =
+    let many = rows_many t s limit at stands in
+    bound_by t.sheet s t.limit limit t.bank.now t.count.terms t.rows.now t.used t.limit t.marks.now t.work.now t.fits stands.opened (omega (arith, many, some))

@@ -1,24 +1,53 @@
 -- The work from branch to branch and from row to row, as far as it has come.
-use Rattle.std.proofs.Common.{◌≡◌, ◌≢◌, ℕ, suc, ◌+◌, ◌*◌, ◌^◌, ◌<◌, ◌≤◌, ◌⊎◌, Bool, true, false, List, ◌∷◌, ◌++◌, length, Some, None, Option, sym, refl, ap, ◌∙◌, subst, inl, inr, arith, nat_lt, pow_pos}
-use Rattle.std.specs.Prelude.{if◌then◌else◌}
+use Rattle.std.proofs.Common.{◌≡◌, ◌≢◌, ℕ, zero, suc, ◌+◌, ◌*◌, ◌^◌, ◌<◌, ◌≤◌, ◌⊎◌, Bool, true, false, List, [], ◌∷◌, ◌++◌, length, Some, None, Option, sym, refl, ap, ◌∙◌, subst, inl, inr, arith, nat_lt, pow_pos}
+use Rattle.std.specs.List.{slice_get}
+use Rattle.std.specs.Prelude.{if◌then◌else◌, slice_set}
 use Rattle.std.proofs.lemmas.Bool.{lt-ltb, le-ltb}
+use Rattle.std.proofs.lemmas.List.{length-append}
+use Rattle.std.proofs.lemmas.Option.{none-some}
 use Rattle.fault.specs.declared.TableFault.{TableFault}
 use Rattle.sheet.specs.System.{System}
+use Rattle.forms.specs.Candidate.{or_none}
 use Rattle.rules.specs.declared.Answer.{Answer}
-use Rattle.rules.specs.declared.Answer.TheVariants.{Taken, Done}
+use Rattle.rules.specs.declared.Answer.TheVariants.{Taken, Done, Refused}
 use Rattle.rules.specs.declared.Branch.{Branch}
 use Rattle.rules.specs.declared.Call.{Call}
-use Rattle.rules.specs.declared.Call.TheVariants.{Take, GiveBack}
+use Rattle.rules.specs.declared.Call.TheVariants.{Take, GiveBack, Strike, Merge, Keep, Verdict}
 use Rattle.rules.specs.declared.Mark.{Mark}
 use Rattle.rules.specs.declared.Mark.TheVariants.{Waiting, Out}
 use Rattle.rules.specs.declared.Outcome.{Outcome}
+use Rattle.rules.specs.Calls.{Turn}
 use Rattle.rules.specs.Promises.{Answered}
-use Rattle.rules.specs.Standing.{Standing, branches, mark_of, marked}
+use Rattle.rules.specs.Rules.{IsOut}
+use Rattle.rules.specs.Standing.{Standing, branches, mark_of, marked, marks_with}
 use Rattle.rules.specs.Working.{following, offers, Offered, EndsAs, WorksFrom}
+use Rattle.rules.specs.Working.Offered.{accepted, refused, last}
 use Rattle.rules.specs.Working.WorksFrom.{finished, passed, settled, stopped}
+use Rattle.rules.proofs.Accounts.{turn}
+use Rattle.rules.proofs.Marking.{or_none_some}
+use Rattle.rules.proofs.Outcomes.{one_outcome}
 use Rattle.table.specs.declared.table.Table.{Table}
 use Rattle.table.specs.Standing.{Stands}
-use Rattle.working.specs.Work.{Advances, Reached, Ended, Worked, first_of}
+use Rattle.working.specs.Work.{Advances, Made, Reached, Ended, Worked, ending, first_of}
+use Rattle.working.proofs.Offers.{stays_refused, offers_end}
+
+-- no call takes rows away
+rows_grow_by : (s : System) (limit : ℕ) (at : Standing) (c : Call) (after : Standing) → Turn s limit at c after → length at.rows ≤ length after.rows
+rows_grow_by s limit at (Take b) after (inl w) = let e = ap (λ (z : Standing). length z.rows) w.1 in omega (arith, e)
+rows_grow_by s limit at (GiveBack b) after (inl w) = let e = ap (λ (z : Standing). length z.rows) w.1 in omega (arith, e)
+rows_grow_by s limit at (Strike b) after (inl w) = let e = ap (λ (z : Standing). length z.rows) w.1 in omega (arith, e)
+rows_grow_by s limit at (Merge b target h) after (inl w) = let e = ap (λ (z : Standing). length z.rows) w.1 in omega (arith, e)
+rows_grow_by s limit at (Keep b h) after (inl w) =
+    let e = ap (λ (z : Standing). length z.rows) w.1.3 in
+    let l = length-append at.rows (w.1.0 ∷ []) in
+    omega (arith, e, l)
+rows_grow_by s limit at Verdict after (inl w) = let e = ap (λ (z : Standing). length z.rows) w.1 in omega (arith, e)
+rows_grow_by s limit at c after (inr w) = let e = ap (λ (z : Standing). length z.rows) w.1 in omega (arith, e)
+
+offered_grows : {s : System} {limit : ℕ} {at after : Standing} {offs made : List Call} {given : List Answer} {end : Option TableFault} → Offered s limit at offs made given end after → length at.rows ≤ length after.rows
+offered_grows {s} {limit} {at} (accepted offer later answer after answered ok) = rows_grow_by s limit at offer after (turn s limit at offer answer after answered)
+offered_grows (refused offer later calls answers fault end after answered rest) = offered_grows rest
+offered_grows {s} {limit} {at} (last offer fault answered) = omega arith
 
 module _ (s : System) (limit : ℕ) where
   pub advances_here : (at : Standing) (b : Branch) → Advances s limit at b at b
@@ -64,3 +93,70 @@ place_first s row = place_within s row 0 (pow_pos (length s.questions))
 
 pub place_next : (s : System) (row k : ℕ) → following s (record { row = row; number = k }) ≡ place_of s row (k + 1)
 place_next s row k = refl
+
+-- an element that was changed is the new one
+changed_here : {X : Type 0} (xs : List X) (i : ℕ) (x y : X) → slice_get xs i ≡ Some y → slice_get (slice_set xs i x) i ≡ Some x
+changed_here {X} [] i x y e = absurd (none-some y e)
+changed_here (z ∷ xs) zero x y e = refl
+changed_here (z ∷ xs) (suc i) x y e = changed_here xs i x y e
+
+mark_changed : (at : Standing) (b : Branch) (m k : Mark) → mark_of at b ≡ Some k → mark_of (marked at b m) b ≡ Some m
+mark_changed at b m k is = by (or_none_some (slice_get at.marks b.row) (λ ms. slice_get ms b.number) k is)
+  where
+    by : (ms : List Mark) × (slice_get at.marks b.row ≡ Some ms) × (slice_get ms b.number ≡ Some k) → mark_of (marked at b m) b ≡ Some m
+    by (ms , row , number) =
+        ap (λ (o : Option (List Mark)). or_none (slice_get (marks_with at.marks b m o) b.row) (λ ms. slice_get ms b.number)) row
+        ∙ (ap (λ (o : Option (List Mark)). or_none o (λ ms. slice_get ms b.number)) (changed_here at.marks b.row (slice_set ms b.number m) ms row) ∙ changed_here ms b.number m k number)
+
+module _ (s : System) (limit : ℕ) (at : Standing) (b : Branch) where
+  -- a branch that waits is not refused
+  pub taken_never_refused : {X : Type 0} (e : TableFault) (after : Standing) → mark_of at b ≡ Some Waiting → Answered s limit at (Take b) (Refused e) after → X
+  taken_never_refused {X} e after waits answered = absurd (none-some e (one_outcome s limit at (Take b) None (Some e) waits answered.0))
+
+  -- what is taken is out, by a ticket for it
+  pub record TakenOut (ticket : Branch) (out : Standing) : Type 0 where
+    pub named : ticket ≡ b
+    pub is_out : IsOut out b
+    pub rows : length out.rows ≡ length at.rows
+
+  pub taken_out : (ticket : Branch) (out : Standing) → Answered s limit at (Take b) (Taken ticket) out → TakenOut ticket out
+  taken_out ticket out answered =
+      record {
+        named = answered.1;
+        is_out = subst (λ (z : Standing). IsOut z b) (sym answered.2) (mark_changed at b Out Waiting answered.0);
+        rows = ap (λ (z : Standing). length z.rows) answered.2;
+      }
+
+  -- the work on a branch that was taken, and settled
+  pub branch_settled : (ticket : Branch) (out : Standing) (new : Table) → Answered s limit at (Take b) (Taken ticket) out → Made s limit out (offers s b (length out.rows)) None new → Reached s limit at b (following s b) new
+  branch_settled ticket out new took m =
+      let t = taken_out ticket out took in
+      let here : Answered s limit at (Take b) (Taken b) out = subst (λ (x : Branch). Answered s limit at (Take b) (Taken x) out) t.named took in
+      let offered : Offered s limit out (offers s b (length at.rows)) m.made m.given None m.after = subst (λ n. Offered s limit out (offers s b n) m.made m.given None m.after) t.rows m.offered in
+      record {
+        mid = m.after;
+        advances = advances_settled s limit at out m.after b m.made m.given here offered;
+        more = (let r = t.rows in let g = offered_grows offered in omega (arith, r, g));
+        stands = m.stands;
+      }
+
+  -- and of one that was given back
+  pub branch_stopped : (bound : ℕ) → s.bound ≡ Some bound → (ticket : Branch) (out after : Standing) (fault : TableFault) (mid new : Table) → Answered s limit at (Take b) (Taken ticket) out → Made s limit out (offers s b (length out.rows)) (Some fault) mid → Answered s limit out (GiveBack b) Done after → Stands s limit new after → Ended s limit at b (ending b fault) new
+  branch_stopped bound is ticket out after fault mid new took m gave stands =
+      let t = taken_out ticket out took in
+      let here : Answered s limit at (Take b) (Taken b) out = subst (λ (x : Branch). Answered s limit at (Take b) (Taken x) out) t.named took in
+      let same' : m.after ≡ out = stays_refused m.offered fault refl in
+      let all : Offered s limit out (offers s b (length out.rows)) m.made m.given (Some fault) out = subst (λ (z : Standing). Offered s limit out (offers s b (length out.rows)) m.made m.given (Some fault) z) same' m.offered in
+      let offered : Offered s limit out (offers s b (length at.rows)) m.made m.given (Some fault) out = subst (λ n. Offered s limit out (offers s b n) m.made m.given (Some fault) out) t.rows all in
+      let ends = offers_end s limit bound out out b (length out.rows) m.made m.given fault is t.is_out all in
+      record {
+        calls = Take b ∷ (m.made ++ GiveBack b ∷ []);
+        answers = Taken b ∷ (m.given ++ Done ∷ []);
+        after = after;
+        works = stopped at out after b m.made m.given fault (ending b fault) here offered gave ends;
+        stands = stands;
+      }
+
+  -- a branch that is out is given back
+  pub given_never_refused : {X : Type 0} (e : TableFault) (after : Standing) → IsOut at b → Answered s limit at (GiveBack b) (Refused e) after → X
+  given_never_refused {X} e after out answered = absurd (none-some e (one_outcome s limit at (GiveBack b) None (Some e) out answered.0))
