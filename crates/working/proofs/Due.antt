@@ -1,5 +1,5 @@
 -- The rows that are still due, in their order.
-use Rattle.std.proofs.Common.{◌≡◌, ℕ, zero, suc, ◌+◌, ◌-◌, ◌<◌, ◌≤◌, List, [], ◌∷◌, ◌++◌, length, Ok, Err, Result, refl, sym, ap, ◌∙◌, subst, arith, append_assoc}
+use Rattle.std.proofs.Common.{◌≡◌, ℕ, zero, suc, ◌+◌, ◌-◌, ◌<◌, ◌≤◌, List, [], ◌∷◌, ◌++◌, length, Ok, Err, Result, refl, sym, ap, ◌∙◌, arith, append_assoc}
 use Rattle.std.specs.Prelude.{MatchResult}
 use Rattle.std.specs.List.{range_with_len}
 use Rattle.std.proofs.lemmas.List.{length-append}
@@ -46,3 +46,29 @@ due_more a (suc m) n =
     let e : a + suc m ≡ a + 1 + m = omega arith in
     let f : suc m + n ≡ suc (m + n) = omega arith in
     ap (λ x. a ∷ (range_with_len (a + 1) m ++ range_with_len x n)) e ∙ (ap (λ l. a ∷ l) (due_more (a + 1) m n) ∙ ap (range_with_len a) (sym f))
+
+-- the row that is taken out, and how many are left
+pub record Taken (r rows row : ℕ) (due rest : List ℕ) : Type 0 where
+  pub is : row ≡ r
+  pub within : r < rows
+  pub left : rest ≡ range_with_len (r + 1) (rows - r - 1)
+  pub many : length rest ≡ rows - r - 1
+  pub before : length due ≡ rows - r
+
+pub due_taken : (r rows row : ℕ) (due rest : List ℕ) → due ≡ range_with_len r (rows - r) → due ≡ row ∷ rest → Taken r rows row due rest
+due_taken r rows row due rest is first =
+    let w = due_first r (rows - r) row rest (sym is ∙ first) in
+    let l = ap length w.2 ∙ length-range_with_len (r + 1) (rows - r - 1) in
+    record { is = w.0; within = omega (arith, w.1); left = w.2; many = l; before = ap length is ∙ length-range_with_len r (rows - r) }
+
+-- behind the rows that are left, the new ones
+pub due_next : (r rows rows' known : ℕ) (rest new : List ℕ) → r < rows → rows ≤ rows' → known ≡ rows → rest ≡ range_with_len (r + 1) (rows - r - 1) → new ≡ rest ++ range_with_len known (rows' - known) → new ≡ range_with_len (r + 1) (rows' - (r + 1))
+due_next r rows rows' known rest new lt more same left is =
+    let one : known ≡ r + 1 + (rows - r - 1) = omega (arith, same, lt) in
+    let two : rows - r - 1 + (rows' - known) ≡ rows' - (r + 1) = omega (arith, same, lt, more) in
+    let at : rest ++ range_with_len known (rows' - known) ≡ range_with_len (r + 1) (rows - r - 1) ++ range_with_len (r + 1 + (rows - r - 1)) (rows' - known) =
+    ap (λ l. l ++ range_with_len known (rows' - known)) left ∙ ap (λ k. range_with_len (r + 1) (rows - r - 1) ++ range_with_len k (rows' - known)) one in
+    is ∙ (at ∙ (due_more (r + 1) (rows - r - 1) (rows' - known) ∙ ap (range_with_len (r + 1)) two))
+
+pub due_many : (rest new : List ℕ) (known n : ℕ) → new ≡ rest ++ range_with_len known n → length new ≡ length rest + n
+due_many rest new known n is = ap length is ∙ (length-append rest (range_with_len known n) ∙ ap (λ k. length rest + k) (length-range_with_len known n))

@@ -1,8 +1,7 @@
 -- Offers made one after another, as far as they have come.
-use Rattle.std.proofs.Common.{◌≡◌, ◌≢◌, ℕ, zero, suc, ◌+◌, ◌-◌, ◌<◌, ◌≤◌, ◌⊎◌, true, List, [], ◌∷◌, ◌++◌, length, Some, None, Option, Result, Ok, Err, sym, refl, ap, ◌∙◌, subst, inl, inr, arith, unwrap_or}
-use Rattle.std.specs.List.{slice_get}
+use Rattle.std.proofs.Common.{◌≡◌, ℕ, zero, suc, ◌+◌, ◌-◌, ◌<◌, ◌≤◌, ◌⊎◌, List, [], ◌∷◌, ◌++◌, length, Some, None, Option, Result, Ok, Err, sym, refl, ap, ◌∙◌, subst, inl, inr, arith, unwrap_or}
 use Rattle.std.proofs.lemmas.Bool.{cases_lt}
-use Rattle.std.proofs.lemmas.Option.{none-some, same_Some, slice_get_within}
+use Rattle.std.proofs.lemmas.Option.{none-some, same_Some}
 use Rattle.fault.specs.declared.TableFault.{TableFault}
 use Rattle.fault.specs.declared.TableFault.TheVariants.{BadMemory, UnsafeStart, NoSuchBranch, NotWaiting, NotOut, HeightAboveBound, NamesExhausted, TermsExhausted, Satisfiable, NoRenaming, UnsafeForm, RowLimit}
 use Rattle.sheet.specs.declared.sheet.Sheet.{Sheet}
@@ -10,13 +9,13 @@ use Rattle.sheet.specs.System.{System}
 use Rattle.terms.specs.declared.TermRecord.{TermRecord}
 use Rattle.rows.specs.declared.row.RowRecord.{RowRecord}
 use Rattle.rules.specs.declared.Answer.{Answer}
-use Rattle.rules.specs.declared.Answer.TheVariants.{Taken, Done, Joined, Holds, Open, Refused}
+use Rattle.rules.specs.declared.Answer.TheVariants.{Done, Joined, Refused}
 use Rattle.rules.specs.declared.Branch.{Branch}
 use Rattle.rules.specs.declared.Call.{Call}
-use Rattle.rules.specs.declared.Call.TheVariants.{Take, GiveBack, Strike, Merge, Keep, Verdict}
+use Rattle.rules.specs.declared.Call.TheVariants.{Strike, Merge, Keep}
 use Rattle.rules.specs.declared.Mark.{Mark}
 use Rattle.rules.specs.Calls.{RefusedBy}
-use Rattle.rules.specs.Promises.{Answered, is_accepted}
+use Rattle.rules.specs.Promises.{Answered}
 use Rattle.rules.specs.Rules.{IsOut}
 use Rattle.rules.specs.Standing.{Standing, mark_of}
 use Rattle.rules.specs.Working.{bound_of, merges_from, offers, Offered, EndsAs}
@@ -135,16 +134,17 @@ module _ (s : System) (limit : ℕ) (at : Standing) (b : Branch) (n h : ℕ) (bo
   merge_accepted t after new lt answered onward stands =
       let here : Answered s limit at (Merge b t (bound_of s)) Done after = at_bound (λ k. Answered s limit at (Merge b t k) Done after) answered in
       let rest : Offered s limit at (merges_and_keep s b t n) (Merge b t (bound_of s) ∷ []) (Done ∷ []) None after =
-        subst (λ (offs : List Call). Offered s limit at offs (Merge b t (bound_of s) ∷ []) (Done ∷ []) None after) (sym (merges_step s b t n lt)) (accepted (Merge b t (bound_of s)) (merges_and_keep s b (t + 1) n) Done after here refl) in
+      subst (λ (offs : List Call). Offered s limit at offs (Merge b t (bound_of s) ∷ []) (Done ∷ []) None after) (sym (merges_step s b t n lt)) (accepted (Merge b t (bound_of s)) (merges_and_keep s b (t + 1) n) Done after here refl) in
       let all = onward _ _ None after rest in
       record { made = all.0; given = all.1; after = after; offered = all.2; stands = stands }
 
   -- a merge is refused, and the next is due
   pub merge_refused : (t : ℕ) (fault : TableFault) (after : Standing) (new : Table) → t < n → Answered s limit at (Merge b t h) (Refused fault) after → Onward s limit at All (merges_and_keep s b t n) → Stands s limit new after → Stands s limit new at × Onward s limit at All (merges_and_keep s b (t + 1) n)
   merge_refused t fault after new lt answered onward stands =
-      let here : Answered s limit at (Merge b t (bound_of s)) (Refused fault) at = at_bound (λ k. Answered s limit at (Merge b t k) (Refused fault) at) (answered.0, refl) in
-      (subst (λ (z : Standing). Stands s limit new z) answered.1 stands,
-        onward_next s limit at All (merges_and_keep s b (t + 1) n) (Merge b t (bound_of s)) fault here (subst (Onward s limit at All) (merges_step s b t n lt) onward))
+      let here : Answered s limit at (Merge b t (bound_of s)) (Refused fault) at = at_bound (λ k. Answered s limit at (Merge b t k) (Refused fault) at) (answered.0, refl) in (
+        subst (λ (z : Standing). Stands s limit new z) answered.1 stands,
+        onward_next s limit at All (merges_and_keep s b (t + 1) n) (Merge b t (bound_of s)) fault here (subst (Onward s limit at All) (merges_step s b t n lt) onward),
+      )
 
   -- a keep ends the offers
   pub keep_made : (t : ℕ) (result : Result Unit Refusal) (after : Standing) (new : Table) → n ≤ t → Answered s limit at (Keep b h) (answer_of_offer result) after → Onward s limit at All (merges_and_keep s b t n) → Stands s limit new after → Made s limit at All (fault_of result) new

@@ -1,7 +1,7 @@
 -- The work from branch to branch and from row to row, as far as it has come.
-use Rattle.std.proofs.Common.{◌≡◌, ◌≢◌, ℕ, zero, suc, ◌+◌, ◌*◌, ◌^◌, ◌<◌, ◌≤◌, ◌⊎◌, Bool, true, false, List, [], ◌∷◌, ◌++◌, length, Some, None, Option, sym, refl, ap, ◌∙◌, subst, inl, inr, arith, nat_lt, pow_pos}
+use Rattle.std.proofs.Common.{◌≡◌, ◌≢◌, ℕ, zero, suc, ◌+◌, ◌<◌, ◌≤◌, Bool, true, false, List, [], ◌∷◌, ◌++◌, length, Some, None, Option, sym, refl, ap, ◌∙◌, subst, inl, inr, arith, nat_lt, pow_pos}
 use Rattle.std.specs.List.{slice_get}
-use Rattle.std.specs.Prelude.{if◌then◌else◌, slice_set}
+use Rattle.std.specs.Prelude.{if◌then◌else◌, slice_set, IsSome}
 use Rattle.std.proofs.lemmas.Bool.{lt-ltb, le-ltb}
 use Rattle.std.proofs.lemmas.List.{length-append}
 use Rattle.std.proofs.lemmas.Option.{none-some}
@@ -14,21 +14,23 @@ use Rattle.rules.specs.declared.Branch.{Branch}
 use Rattle.rules.specs.declared.Call.{Call}
 use Rattle.rules.specs.declared.Call.TheVariants.{Take, GiveBack, Strike, Merge, Keep, Verdict}
 use Rattle.rules.specs.declared.Mark.{Mark}
-use Rattle.rules.specs.declared.Mark.TheVariants.{Waiting, Out}
+use Rattle.rules.specs.declared.Mark.TheVariants.{Waiting, Out, Struck, Merged, Kept}
 use Rattle.rules.specs.declared.Outcome.{Outcome}
 use Rattle.rules.specs.Calls.{Turn}
 use Rattle.rules.specs.Promises.{Answered}
 use Rattle.rules.specs.Rules.{IsOut}
-use Rattle.rules.specs.Standing.{Standing, branches, mark_of, marked, marks_with}
-use Rattle.rules.specs.Working.{following, offers, Offered, EndsAs, WorksFrom}
+use Rattle.rules.specs.Standing.{Standing, branches, mark_of, marked, marks_with, is_waiting}
+use Rattle.rules.specs.Working.{first_branch, following, offers, Offered, verdict_of}
 use Rattle.rules.specs.Working.Offered.{accepted, refused, last}
 use Rattle.rules.specs.Working.WorksFrom.{finished, passed, settled, stopped}
 use Rattle.rules.proofs.Accounts.{turn}
 use Rattle.rules.proofs.Marking.{or_none_some}
 use Rattle.rules.proofs.Outcomes.{one_outcome}
 use Rattle.table.specs.declared.table.Table.{Table}
-use Rattle.table.specs.Standing.{Stands}
-use Rattle.working.specs.Work.{Advances, Made, Reached, Ended, Worked, ending, first_of}
+use Rattle.table.specs.Standing.{Stands, rows_of}
+use Rattle.table.proofs.Always.{always_stands}
+use Rattle.table.proofs.Marking.{rows_many}
+use Rattle.working.specs.Work.{Advances, Made, Reached, Ended, Worked, RowWorked, ending, first_of, waits_in}
 use Rattle.working.proofs.Offers.{stays_refused, offers_end}
 
 -- no call takes rows away
@@ -104,7 +106,7 @@ mark_changed : (at : Standing) (b : Branch) (m k : Mark) → mark_of at b ≡ So
 mark_changed at b m k is = by (or_none_some (slice_get at.marks b.row) (λ ms. slice_get ms b.number) k is)
   where
     by : (ms : List Mark) × (slice_get at.marks b.row ≡ Some ms) × (slice_get ms b.number ≡ Some k) → mark_of (marked at b m) b ≡ Some m
-    by (ms , row , number) =
+    by (ms, row, number) =
         ap (λ (o : Option (List Mark)). or_none (slice_get (marks_with at.marks b m o) b.row) (λ ms. slice_get ms b.number)) row
         ∙ (ap (λ (o : Option (List Mark)). or_none o (λ ms. slice_get ms b.number)) (changed_here at.marks b.row (slice_set ms b.number m) ms row) ∙ changed_here ms b.number m k number)
 
@@ -160,3 +162,71 @@ module _ (s : System) (limit : ℕ) (at : Standing) (b : Branch) where
   -- a branch that is out is given back
   pub given_never_refused : {X : Type 0} (e : TableFault) (after : Standing) → IsOut at b → Answered s limit at (GiveBack b) (Refused e) after → X
   given_never_refused {X} e after out answered = absurd (none-some e (one_outcome s limit at (GiveBack b) None (Some e) out answered.0))
+
+module _ (s : System) (limit : ℕ) (at : Standing) (row k : ℕ) (few : k < branches s) where
+  abbrev here : Branch
+  here = record { row = row; number = k }
+
+  -- the work on one branch of a row, where it came to this one
+  pub row_on : (old new : Table) (result : Option Outcome) (r : Reached s limit at (first_of row) (place_of s row k) old) → Worked s limit r.mid here (following s here) result new → Worked s limit at (first_of row) (place_of s row (k + 1)) result new
+  row_on old new result r w =
+      worked_on s limit at (first_of row) (place_of s row k) (place_of s row (k + 1)) old new result r
+      (subst (λ (b : Branch). Worked s limit r.mid b (place_of s row (k + 1)) result new) (sym (place_within s row k few)) w)
+
+  -- a branch that does not wait
+  pub row_past : (t : Table) (r : Reached s limit at (first_of row) (place_of s row k) t) (mark : Mark) → mark_of r.mid here ≡ Some mark → mark ≢ Waiting → Reached s limit at (first_of row) (place_of s row (k + 1)) t
+  row_past t r mark is other =
+      row_on t t None r (record { mid = r.mid; advances = advances_past s limit r.mid here mark is other; more = omega arith; stands = r.stands })
+
+-- a row that was worked to its end
+pub row_done : (s : System) (limit : ℕ) (at : Standing) (row k : ℕ) (t : Table) → branches s ≤ k → Reached s limit at (first_of row) (place_of s row k) t → Reached s limit at (first_of row) (first_of (row + 1)) t
+row_done s limit at row k t le r = subst (λ (b : Branch). Reached s limit at (first_of row) b t) (place_past s row k le) r
+
+pub row_begun : (s : System) (limit : ℕ) (at : Standing) (row : ℕ) (t : Table) → Stands s limit t at → Reached s limit at (first_of row) (place_of s row 0) t
+row_begun s limit at row t stands =
+    subst (λ (b : Branch). Reached s limit at (first_of row) b t) (sym (place_first s row))
+    (record { mid = at; advances = advances_here s limit at (first_of row); more = omega arith; stands = stands })
+
+-- what a test of a mark tells
+pub waits_true : (o : Option Mark) → waits_in o ≡ true → o ≡ Some Waiting
+waits_true None e = let z : ◌≡◌ {A = ℕ} 0 1 = cc in absurd (omega arith)
+waits_true (Some Waiting) e = refl
+waits_true (Some Out) e = let z : ◌≡◌ {A = ℕ} 0 1 = cc in absurd (omega arith)
+waits_true (Some Struck) e = let z : ◌≡◌ {A = ℕ} 0 1 = cc in absurd (omega arith)
+waits_true (Some Merged) e = let z : ◌≡◌ {A = ℕ} 0 1 = cc in absurd (omega arith)
+waits_true (Some Kept) e = let z : ◌≡◌ {A = ℕ} 0 1 = cc in absurd (omega arith)
+
+pub record AnotherMark (o : Option Mark) : Type 0 where
+  pub mark : Mark
+  pub is : o ≡ Some mark
+  pub other : mark ≢ Waiting
+
+pub waits_false : (o : Option Mark) → IsSome o → waits_in o ≡ false → AnotherMark o
+waits_false None some e = let z : ◌≡◌ {A = ℕ} 0 1 = cc in absurd (omega arith)
+waits_false (Some mark) some e = record { mark = mark; is = refl; other = λ w. (let f : true ≡ false = ap is_waiting (sym w) ∙ e in let z : ◌≡◌ {A = ℕ} 0 1 = cc in absurd (omega arith)) }
+
+-- a row that was worked to its end takes no row away
+pub row_grows : (old new : Table) (row : ℕ) → row < rows_of old → RowWorked old row new None → rows_of old ≤ rows_of new
+row_grows old new row lt worked =
+    let there = always_stands old in
+    let before = rows_many old there.0 there.1 there.2 there.3 in
+    let r = worked there.0 there.1 there.2 there.3 (omega (arith, before, lt)) in
+    let after = rows_many new there.0 there.1 r.mid r.stands in
+    let g = r.more in
+    omega (arith, before, after, g)
+
+module _ (s : System) (limit : ℕ) (at : Standing) (row given : ℕ) (same : given ≡ row) (old new : Table) (lt : row < rows_of old) (r : Reached s limit at first_branch (first_of row) old) where
+  -- the work on the next row
+  pub rows_on : (result : Option Outcome) → RowWorked old given new result → Worked s limit at first_branch (first_of (row + 1)) result new
+  rows_on result worked =
+      let many = rows_many old s limit r.mid r.stands in
+      let w : Worked s limit r.mid (first_of given) (first_of (given + 1)) result new = worked s limit r.mid r.stands (omega (arith, many, lt, same)) in
+      worked_on s limit at first_branch (first_of row) (first_of (row + 1)) old new result r
+      (subst (λ (k : ℕ). Worked s limit r.mid (first_of k) (first_of (k + 1)) result new) same w)
+
+-- behind the last row the verdict ends the work
+pub rows_end : (s : System) (limit : ℕ) (at : Standing) (row : ℕ) (t : Table) (answer : Answer) (outcome : Outcome) → rows_of t ≤ row → (r : Reached s limit at first_branch (first_of row) t) → verdict_of outcome ≡ Some answer → Answered s limit r.mid Verdict answer r.mid → Ended s limit at first_branch outcome t
+rows_end s limit at row t answer outcome le r is answered =
+    let many = rows_many t s limit r.mid r.stands in
+    let end = r.advances (Verdict ∷ []) (answer ∷ []) outcome r.mid (finished r.mid (first_of row) answer outcome (omega (arith, many, le)) is answered) in
+    record { calls = end.0; answers = end.1; after = r.mid; works = end.2; stands = r.stands }

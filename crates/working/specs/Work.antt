@@ -1,6 +1,5 @@
 -- What the work on a table has come to after a part of it. Assumes nothing.
-use Rattle.std.specs.Prelude.{◌≡◌, ◌<◌, ◌≤◌, ◌-◌, ◌+◌, ℕ, List, [], ◌∷◌, ◌++◌, length, Ok, Err, Option, None, Some, Result}
-use Rattle.std.specs.List.{range_with_len}
+use Rattle.std.specs.Prelude.{◌≡◌, ◌<◌, ◌≤◌, ◌-◌, ◌+◌, ℕ, Bool, false, List, [], ◌∷◌, ◌++◌, length, Ok, Err, Option, None, Some, Result}
 use Rattle.fault.specs.declared.TableFault.{TableFault}
 use Rattle.fault.specs.declared.TableFault.TheVariants.{UnsafeForm}
 use Rattle.sheet.specs.System.{System}
@@ -8,10 +7,11 @@ use Rattle.rules.specs.declared.Answer.{Answer}
 use Rattle.rules.specs.declared.Branch.{Branch}
 use Rattle.rules.specs.declared.Call.{Call}
 use Rattle.rules.specs.declared.Call.TheVariants.{Keep}
+use Rattle.rules.specs.declared.Mark.{Mark}
 use Rattle.rules.specs.declared.Mark.TheVariants.{Waiting, Out}
 use Rattle.rules.specs.declared.Outcome.{Outcome}
-use Rattle.rules.specs.Standing.{Standing, mark_of}
-use Rattle.rules.specs.Working.{bound_of, first_branch, following, merges_from, offers, Offered, WorksFrom, WorkedThrough}
+use Rattle.rules.specs.Standing.{Standing, mark_of, is_waiting}
+use Rattle.rules.specs.Working.{bound_of, first_branch, following, merges_from, offers, Offered, WorksFrom}
 use Rattle.table.specs.declared.table.Table.{Table}
 use Rattle.table.specs.declared.ticket.Refusal.{Refusal}
 use Rattle.table.specs.Standing.{Stands}
@@ -81,6 +81,12 @@ abbrev pub BranchWorked : Table → Branch → Table → Option Outcome → Type
 BranchWorked old b new result =
     (s : System) (limit : ℕ) (at : Standing) → Stands s limit old at → mark_of at b ≡ Some Waiting → Worked s limit at b (following s b) result new
 
+-- whether a mark that is there is that of a branch that waits
+abbrev pub waits_in : Option Mark → Bool
+waits_in None = false
+waits_in (Some mark) = is_waiting mark
+
+-- the first branch of a row
 abbrev pub first_of : ℕ → Branch
 first_of row = record { row = row; number = 0 }
 

@@ -15,10 +15,12 @@ fn merge_or_keep(table: &mut Table, ticket: Ticket) -> Result<(), Refusal>
     for target in 0..table.rows() {
         match table.merge(ticket, target, height) {
             Ok(()) => return Ok(()),
-            Err(Refusal {
-                fault: _,
-                ticket: unspent,
-            }) => ticket = unspent,
+            Err(
+                Refusal {
+                    fault: _,
+                    ticket: unspent,
+                },
+            ) => ticket = unspent,
         }
     }
     table.keep(ticket, height)

@@ -1,13 +1,15 @@
 //! The walk over rows and branches.
-ghost use Rattle.std.specs.Prelude.{◌≡◌, ◌+◌, ◌-◌, ◌≤◌, ◌++◌, length};
+ghost use Rattle.std.specs.Prelude.{◌≡◌, ◌+◌, ◌-◌, ◌<◌, ◌≤◌, ◌++◌, length, IsSome};
 ghost use Rattle.std.specs.List.{range_with_len};
 ghost use Rattle.queue.specs.Entries.{entries, room};
-ghost use Rattle.working.specs.Work.{BranchWorked, RowWorked, TableWorked, ending};
+ghost use Rattle.rules.specs.Standing.{branches, mark_of};
+ghost use Rattle.table.specs.Standing.{Tells};
+ghost use Rattle.working.specs.Work.{BranchWorked, RowWorked, TableWorked, ending, waits_in};
 
 use crate::offering::settle;
 use fault::TableFault;
 use queue::Queue;
-use rules::{Branch, Mark, Outcome};
+use rules::{Branch, Outcome};
 use table::{Refusal, Table, Verdict};
 
 const MOST_ROWS: usize = 64;
@@ -39,13 +41,26 @@ fn work_branch(table: &mut Table, branch: Branch) -> Option<Outcome>
     }
 }
 
+/// Whether the branch waits.
+fn waits(table: &Table, branch: Branch) -> bool
+    ensures waits { Tells table.now (λ s at. result ≡ waits_in (mark_of at branch)) }
+    ensures there { Tells table.now
+        (λ s at. branch.row < length at.rows → branch.number < branches s
+        → IsSome (mark_of at branch)) }
+{
+    match table.mark(branch) {
+        Some(mark) => mark.is_waiting(),
+        None => false,
+    }
+}
+
 /// Works the branches of a row, in order, passing any that does not wait.
 fn work_row(table: &mut Table, row: u8) -> Option<Outcome>
     ensures { RowWorked table.old row table.new result }
 {
     for number in 0..table.branches_per_row() {
         let branch = Branch { row, number };
-        if table.mark(branch) != Some(Mark::Waiting) {
+        if !waits(table, branch) {
             continue;
         }
         if let Some(outcome) = work_branch(table, branch) {

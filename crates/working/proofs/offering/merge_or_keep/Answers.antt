@@ -1,4 +1,4 @@
-use Rattle.std.proofs.Common.{◌≡◌, ℕ, Some, subst, ◌∙◌, arith, ◌≤◌, ◌<◌, length}
+use Rattle.std.proofs.Common.{subst, ◌∙◌, arith, length}
 use Rattle.rules.specs.declared.Answer.TheVariants.{Done, Refused}
 use Rattle.rules.specs.declared.Call.TheVariants.{Merge, Keep}
 use Rattle.rules.specs.declared.Mark.TheVariants.{Out}
@@ -22,13 +22,13 @@ pub loop-target-preserved : goal.loop-target-preserved
 loop-target-preserved c = record {
   same = c.in-Err.ensures.unspent ∙ c.loop-target.invariant.same;
   onward = λ s limit at stands out.
-    (let b = branch_of c.args.ticket in
-    let rows = marked_row c.args.table.now s limit at stands b Out out in
-    let many = c.rows-target-end.ensures.rows s limit at stands in
-    let on = c.loop-target.invariant.onward s limit at stands out in
-    let w = c.in-Err.ensures.performs s limit at on.0 in
-    let answered = subst (λ (k : Ticket). Answered s limit at (Merge (branch_of k) c.loop-target.target c.bound-height.result) (Refused c.in-Err.field-0.fault) w.0) c.loop-target.invariant.same w.1 in
-    merge_refused s limit at b (length at.rows) c.bound-height.result (c.bound-height.ensures s limit at stands (omega (arith, rows))) c.loop-target.target c.in-Err.field-0.fault w.0 c.merge.new.self (omega (arith, many, c.loop-target-test.true)) answered on.1 w.2);
+      (let b = branch_of c.args.ticket in
+      let rows = marked_row c.args.table.now s limit at stands b Out out in
+      let many = c.rows-target-end.ensures.rows s limit at stands in
+      let on = c.loop-target.invariant.onward s limit at stands out in
+      let w = c.in-Err.ensures.performs s limit at on.0 in
+      let answered = subst (λ (k : Ticket). Answered s limit at (Merge (branch_of k) c.loop-target.target c.bound-height.result) (Refused c.in-Err.field-0.fault) w.0) c.loop-target.invariant.same w.1 in
+      merge_refused s limit at b (length at.rows) c.bound-height.result (c.bound-height.ensures s limit at stands (omega (arith, rows))) c.loop-target.target c.in-Err.field-0.fault w.0 c.merge.new.self (omega (arith, many, c.loop-target-test.true)) answered on.1 w.2);
 }
 
 pub returns-clause-made : goal.returns-clause-made

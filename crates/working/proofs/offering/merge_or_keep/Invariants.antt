@@ -12,5 +12,5 @@ abbrev pub invariant-loop-target : goal.invariant-loop-target
 invariant-loop-target l = record {
   same : l.ticket ≡ l.fn.ticket;
   onward : (s : System) (limit : ℕ) (at : Standing) → Stands s limit l.fn.table at → mark_of at (branch_of l.fn.ticket) ≡ Some Out
-    → Stands s limit l.table at × Onward s limit at (merges_and_keep s (branch_of l.fn.ticket) 0 (length at.rows)) (merges_and_keep s (branch_of l.fn.ticket) l.target (length at.rows));
+      → Stands s limit l.table at × Onward s limit at (merges_and_keep s (branch_of l.fn.ticket) 0 (length at.rows)) (merges_and_keep s (branch_of l.fn.ticket) l.target (length at.rows));
 }

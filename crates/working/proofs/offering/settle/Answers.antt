@@ -1,7 +1,4 @@
 use Rattle.std.proofs.Common.{◌≡◌, length, subst, refl, sym, Some}
-use Rattle.rules.specs.declared.Answer.TheVariants.{Refused}
-use Rattle.rules.specs.declared.Call.TheVariants.{Strike}
-use Rattle.rules.specs.Promises.{Answered}
 use Rattle.rules.specs.declared.Mark.TheVariants.{Out}
 use Rattle.rules.specs.Standing.{Standing, mark_of}
 use Rattle.table.specs.declared.ticket.Ticket.{Ticket}
@@ -24,4 +21,4 @@ returns-in-Err-clause-tried c = λ s limit at stands out.
     let still = subst (λ (z : Standing). Stands s limit c.strike.new.self z) w.1.1 w.2 in
     let made = c.merge_or_keep.ensures.made s limit at still (subst (λ (k : Ticket). mark_of at (branch_of k) ≡ Some Out) (sym same) out) in
     strike_refused s limit at b (length at.rows) c.in-Err.field-0.fault (fault_of c.merge_or_keep.result) c.merge_or_keep.new.table (w.1.0, refl)
-      (subst (λ (k : Ticket). Made s limit at (merges_and_keep s (branch_of k) 0 (length at.rows)) (fault_of c.merge_or_keep.result) c.merge_or_keep.new.table) same made)
+    (subst (λ (k : Ticket). Made s limit at (merges_and_keep s (branch_of k) 0 (length at.rows)) (fault_of c.merge_or_keep.result) c.merge_or_keep.new.table) same made)

@@ -1,4 +1,4 @@
-use Rattle.std.proofs.Common.{◌≡◌, ◌-◌, ap, ◌∙◌, ◌++◌, arith}
+use Rattle.std.proofs.Common.{ap, ◌∙◌, ◌++◌, arith}
 use Rattle.std.specs.List.{range_with_len}
 use Rattle.queue.specs.Entries.{entries, room}
 use Rattle.working.proofs.Due.{pushed}

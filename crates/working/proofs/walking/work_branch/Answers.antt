@@ -1,18 +1,18 @@
 use Rattle.std.proofs.Common.{◌≡◌, Some, None, subst, sym, refl, ap, length, ◌∙◌, arith}
-use Rattle.rules.specs.declared.Answer.TheVariants.{Done, Refused}
+use Rattle.rules.specs.declared.Answer.TheVariants.{Done}
 use Rattle.rules.specs.declared.Branch.{Branch}
 use Rattle.rules.specs.declared.Call.TheVariants.{GiveBack}
 use Rattle.rules.specs.declared.Outcome.{Outcome}
-use Rattle.rules.specs.declared.Mark.TheVariants.{Out, Waiting}
+use Rattle.rules.specs.declared.Mark.TheVariants.{Waiting}
 use Rattle.rules.specs.Promises.{Answered}
 use Rattle.rules.specs.Rules.{IsOut}
-use Rattle.rules.specs.Standing.{Standing, mark_of}
+use Rattle.rules.specs.Standing.{Standing}
 use Rattle.rules.specs.Working.{offers}
 use Rattle.table.specs.declared.ticket.Ticket.{Ticket}
 use Rattle.table.specs.Answers.{branch_of}
 use Rattle.table.specs.Standing.{Stands}
 use Rattle.table.proofs.Always.{always_stands}
-use Rattle.working.specs.Work.{Ended, Made, ending}
+use Rattle.working.specs.Work.{Ended, Made}
 use Rattle.working.proofs.Offers.{bound_there, marked_row, stays_refused}
 use Rattle.working.proofs.Walks.{taken_never_refused, taken_out, branch_settled, branch_stopped, given_never_refused}
 use Rattle.working.proofs.walking.work_branch.Goals as goal
@@ -60,4 +60,4 @@ returns c = λ s limit at stands waits.
     let row = marked_row c.args.table.now s limit at stands b Waiting waits in
     let bound = bound_there c.args.table.now s limit at stands (omega (arith, row)) in
     subst (λ (o : Outcome). Ended s limit at b o c.give_back.new.self) (sym c.ending.ensures)
-      (branch_stopped s limit at b bound.0 bound.1 (branch_of c.in-Ok.ticket) w.0 back.0 c.in-Err.field-0.fault c.settle.new.table c.give_back.new.self w.1 made gave back.2)
+    (branch_stopped s limit at b bound.0 bound.1 (branch_of c.in-Ok.ticket) w.0 back.0 c.in-Err.field-0.fault c.settle.new.table c.give_back.new.self w.1 made gave back.2)
