@@ -1,41 +1,19 @@
 -- The laws of the run file's grammar. Assumes nothing.
-use Rattle.std.proofs.Common.{◌≡◌, ℕ, ◌+◌, ◌^◌, ◌<◌, ◌≤◌, true, false, cond, eqb, List, [], ◌∷◌, length, Some, None, Ok, Err, decimal, Option, Result, refl, ap, ◌∙◌, arith, rules}
-use Rattle.std.proofs.lemmas.Bool.{eqb-false}
-use Rattle.std.proofs.lemmas.Fmt.{digits_decimal, digits_value-decimal}
-use Rattle.std.proofs.lemmas.Str.Parse.{IsNumeralModel, numerals_by_fold}
-use Rattle.std.proofs.lemmas.List.Splits.{length-slice_split, join_with_byte-slice_split}
+use Rattle.std.proofs.Common.{◌≡◌, ℕ, ◌+◌, ◌^◌, ◌<◌, ◌≤◌, List, [], ◌∷◌, length, Some, None, Ok, Err, decimal, Option, Result, ap, arith}
+use Rattle.std.proofs.lemmas.List.Splits.{length-slice_split}
 use Rattle.std.specs.Prelude.{◌==◌}
-use Rattle.std.specs.Char.{is_ascii_digit}
-use Rattle.std.specs.List.{AllByRecursion, list_all, onto_first}
 use Rattle.run_file.specs.Directive.{and_then}
-use Rattle.run_file.specs.Grammar.{Without, Grammar}
+use Rattle.run_file.specs.Grammar.{Grammar}
 use Rattle.run_file.specs.Reading.{Sofar, line_says, at_line, following, finished, present, run_said, nothing}
-use Rattle.run_file.specs.Text.{lines_of, words_of, value_after, small, number_of}
+use Rattle.run_file.specs.Text.{or_problem, number_of}
 use Rattle.run_file_error.specs.declared.LineError.{LineError}
 use Rattle.run_file_error.specs.declared.Problem.{Problem}
-use Rattle.run_file_error.specs.declared.Problem.TheVariants.{NotANumber, PlantMissing, StartMissing, StepsMissing}
-use Rattle.run_file.proofs.Numbers.{small-fits}
-
-own : IsNumeralModel (λ ds. list_all is_ascii_digit ds ≡ true) (value_after 0)
-own = numerals_by_fold _ (search rules) value_after (search rules)
+use Rattle.run_file_error.specs.declared.Problem.TheVariants.{PlantMissing, StartMissing, StepsMissing}
+use Rattle.text_words.proofs.Laws.{numerals as small_numerals, parted, whole}
+use Rattle.text_words.specs.Words.{lines_of, words_of}
 
 numerals : (n : ℕ) → n < 2 ^ 32 → number_of (decimal n) ≡ Ok n
-numerals n h =
-    let wide : n < 2 ^ 64 = omega arith in
-    ap (λ b. cond b (small (value_after 0 (decimal n))) (Err NotANumber)) (digits_decimal own n wide)
-    ∙ ap small (digits_value-decimal own n wide) ∙ small-fits n h
-
-onto_first_parted : (x : ℕ) (ps : List (List ℕ)) → (x ≡ 10 → ⊥) → AllByRecursion (Without 10) ps → AllByRecursion (Without 10) (onto_first x ps)
-onto_first_parted x [] h a = ((h, tt), tt)
-onto_first_parted x (p ∷ ps) h a = ((h, a.0), a.1)
-
-parted : (bs : List ℕ) → AllByRecursion (Without 10) (lines_of bs)
-parted [] = (tt, tt)
-parted (b ∷ bs) =
-    elim (eqb b 10) as (λ t. eqb b 10 ≡ t → AllByRecursion (Without 10) (cond t ([] ∷ lines_of bs) (onto_first b (lines_of bs)))) [
-      | true ↦ λ e. (tt, parted bs)
-      | false ↦ λ e. onto_first_parted b (lines_of bs) (eqb-false b 10 e) (parted bs)
-    ] refl
+numerals n h = ap or_problem (small_numerals n 4294967295 (omega arith) (omega arith))
 
 line_is : {X : Type 0} (line : ℕ) (p : Problem) (e : LineError) → ◌≡◌ {A = Result X LineError} (Err (record { line = line; problem = p })) (Err e) → line ≡ e.line
 line_is line p e h = let same : record { line = line; problem = p } ≡ e = cc in ap (λ x. x.line) same
@@ -69,4 +47,4 @@ inside bs e h =
     ] (inside_lines 1 nothing (lines_of bs) e) h
 
 pub laws : (bs : List ℕ) → Grammar bs
-laws bs = record { whole = join_with_byte-slice_split 10 bs; parted = parted bs; numerals = numerals; inside = inside bs }
+laws bs = record { whole = whole bs; parted = parted bs; numerals = numerals; inside = inside bs }

@@ -6,7 +6,8 @@ use Rattle.std.proofs.lemmas.Iterator.{YieldsList}
 use Rattle.std.proofs.lemmas.Iterator.Consumers.{YieldsList-turn, YieldsList-end}
 use Rattle.run_file.specs.Directive.{and_then}
 use Rattle.run_file.specs.Reading.{Fails, Sofar, numbers_of, with_first, line_says, at_line, following}
-use Rattle.run_file.specs.Text.{number_of, lines_of, words_of}
+use Rattle.run_file.specs.Text.{number_of}
+use Rattle.text_words.specs.Words.{lines_of, words_of}
 use Rattle.run_file_error.specs.declared.LineError.{LineError}
 use Rattle.run_file_error.specs.declared.Problem.{Problem}
 use Rattle.run_file_error.specs.declared.ReadFailure.{ReadFailure}

@@ -1,12 +1,11 @@
 -- What lines, numbers and named lines are for. Assumes nothing.
-use Rattle.std.specs.Prelude.{◌≡◌, ℕ, ◌^◌, ◌<◌, ◌≤◌, List, length, Ok, Err, decimal, ◌≢◌}
+use Rattle.std.specs.Prelude.{◌≡◌, ℕ, ◌^◌, ◌<◌, ◌≤◌, List, length, Ok, Err, decimal}
 use Rattle.run_file.specs.Reading.{run_said}
-use Rattle.run_file.specs.Text.{lines_of, number_of}
+use Rattle.run_file.specs.Text.{number_of}
 use Rattle.run_file_error.specs.declared.LineError.{LineError}
 use Rattle.std.specs.List.{AllByRecursion, join_with_byte}
-
-abbrev pub Without : ℕ → List ℕ → Type 0
-Without b l = AllByRecursion (λ x. x ≢ b) l
+use Rattle.text_words.specs.Grammar.{Without}
+use Rattle.text_words.specs.Words.{lines_of}
 
 pub record Grammar (bytes : List ℕ) : Type 0 where
   -- the lines have no line end, and make up the file with one between each and the next

@@ -3,7 +3,8 @@ use Rattle.std.specs.Prelude.{◌≡◌, ℕ, ◌+◌, List, [], ◌∷◌, ◌+
 use Rattle.plant.specs.declared.affine.Curve.{Curve}
 use Rattle.plant.specs.declared.listed.Entry.{Entry}
 use Rattle.run_file.specs.Directive.{and_then, keyword_of, one_of, entry_of, curve_of}
-use Rattle.run_file.specs.Text.{number_of, lines_of, words_of}
+use Rattle.run_file.specs.Text.{number_of}
+use Rattle.text_words.specs.Words.{lines_of, words_of}
 use Rattle.run_file.specs.declared.Halt.{Halt}
 use Rattle.run_file_error.specs.declared.LineError.{LineError}
 use Rattle.run_file.specs.declared.Plant.{Plant}

@@ -1,13 +1,14 @@
 //! What the lines so far say.
 ghost use Rattle.std.specs.Prelude.{◌≡◌, ℕ, map, vec_items};
-ghost use Rattle.run_file.specs.Text.{words_of};
+ghost use Rattle.text_words.specs.Words.{words_of};
 ghost use Rattle.run_file.specs.Reading.{Means, Said, plant_of, numbers_of, so_far, nothing, named, fresh, first_named, acted, line_says};
 
 use crate::directive::{Keyword, curve_of, entry_of, one_of};
-use crate::words::{number, words_of};
+use crate::numbers::number;
 use crate::{Halt, Plant};
 use run_file_error::Problem;
 use std::alloc::Global;
+use text_words::words;
 
 #[derive(Drop)]
 pub(crate) struct Draft {
@@ -152,7 +153,7 @@ impl Draft {
     pub(crate) fn line(&mut self, heap: Global, text: &[u8]) -> Result<(), Halt>
         ensures { Means (λ _. so_far self.new) result (line_says (so_far self.old) (words_of text.now)) }
     {
-        let words = words_of(heap, text)?;
+        let words = words(heap, text)?;
         let [name, rest @ ..] = words.as_slice() else {
             return Ok(());
         };

@@ -12,8 +12,8 @@ use std::alloc::{AllocError, AllocFailed};
 
 mod directive;
 mod draft;
+mod numbers;
 mod reading;
-mod words;
 
 pub use reading::read;
 

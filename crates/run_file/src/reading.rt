@@ -1,6 +1,6 @@
 //! The whole file, line after line.
 ghost use Rattle.std.specs.Prelude.{◌≡◌, length, IfOk};
-ghost use Rattle.run_file.specs.Text.{lines_of, words_of};
+ghost use Rattle.text_words.specs.Words.{lines_of, words_of};
 ghost use Rattle.run_file.specs.Grammar.{Grammar};
 ghost use Rattle.run_file.specs.Reading.{Tells, so_far, line_says, at_line, following, finished, run_said, run_of};
 

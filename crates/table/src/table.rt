@@ -28,10 +28,11 @@ pub struct Table<'a> {
 }
 
 impl<'a> Table<'a> {
-    ghost use Rattle.std.specs.Prelude.{ℕ};
+    ghost use Rattle.std.specs.Prelude.{ℕ, length};
     ghost use Rattle.sheet.specs.System.{System};
     ghost use Rattle.rules.specs.Standing.{unopened};
-    ghost use Rattle.table.specs.Standing.{Stands};
+    ghost use Rattle.table.specs.Memory.{HasLengths};
+    ghost use Rattle.table.specs.Standing.{Stands, Fits};
 
     /// A table that was never opened, over memory of any length.
     pub fn new(
@@ -40,7 +41,9 @@ impl<'a> Table<'a> {
         marks: &'a mut [Mark],
         work: &'a mut [u16],
     ) -> Table<'a>
-        ensures { (s : System) (limit : ℕ) → Stands s limit result unopened }
+        ensures unopened { (s : System) (limit : ℕ) → Stands s limit result unopened }
+        ensures fits { HasLengths (length bank.old) (length rows.old)
+            (length marks.old) (length work.old) → Fits result }
     {
         Table {
             sheet: None,

@@ -5,7 +5,7 @@ use Rattle.std.proofs.lemmas.Iterator.Splits.{YieldsList-from_slice_split}
 use Rattle.std.proofs.lemmas.Result.{err_from_is_err_and}
 use Rattle.run_file.specs.Directive.{and_then}
 use Rattle.run_file.specs.Reading.{Fails, so_far, following}
-use Rattle.run_file.specs.Text.{lines_of}
+use Rattle.text_words.specs.Words.{lines_of}
 use Rattle.run_file.proofs.Sequences.{lines_more, lines_all, lines_end, fails_on}
 use Rattle.run_file.proofs.reading.take_lines.Goals as goal
 

@@ -1,6 +1,6 @@
 use Rattle.std.proofs.Common.{◌≡◌, ◌+◌, length, drop}
 use Rattle.run_file.specs.Reading.{so_far, following}
-use Rattle.run_file.specs.Text.{lines_of}
+use Rattle.text_words.specs.Words.{lines_of}
 use Rattle.run_file.proofs.reading.take_lines.Given as goal
 
 -- what the rest says from here on is what the file says

@@ -1,0 +1,9 @@
+//! What is printed of a session on a check table.
+#![tactic(auto)]
+
+mod lines;
+mod memory;
+mod whole;
+mod working;
+
+pub use whole::session;

@@ -1,0 +1,12 @@
+use Rattle.std.proofs.Common.{◌∙◌, not, rules, tests, length}
+use Rattle.std.specs.Prelude.{◌==◌}
+use Rattle.std.proofs.lemmas.Iterator.Consumers.{map_from_collect, YieldsList-at, YieldsList-from_filter}
+use Rattle.std.proofs.lemmas.Iterator.Splits.{YieldsList-from_slice_split}
+use Rattle.text_words.specs.Words.{blank, before_comment}
+use Rattle.text_words.proofs.words.Goals as goal
+
+pub returns : goal.returns
+returns c =
+    map_from_collect _ c.collect.ensures.ran (YieldsList-from_filter _ (λ word. not (length word == 0))
+    (YieldsList-at c.filter.ensures.source (YieldsList-from_slice_split _ blank (before_comment c.args.line.now) (c.split.ensures.rest ∙ c.before_comment.ensures) c.split.ensures.done c.split.ensures.closure (λ x r q k. search (rules, tests))))
+    c.filter.ensures.closure (λ x r q k. search (rules, tests)))
