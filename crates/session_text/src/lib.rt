@@ -2,7 +2,6 @@
 #![tactic(auto)]
 
 mod lines;
-mod memory;
 mod whole;
 mod working;
 

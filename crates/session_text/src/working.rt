@@ -5,11 +5,10 @@ ghost use Rattle.sheet.specs.View.{sheet_of};
 ghost use Rattle.reader.specs.Law.{ReadAs, Refused};
 ghost use Rattle.table.specs.Answers.{call_of, answer_of};
 ghost use Rattle.table.specs.Memory.{HasLengths};
-ghost use Rattle.session_text.specs.Memory.{IsRoom};
+ghost use Rattle.table_memory.specs.Room.{IsRoom};
 ghost use Rattle.session_text.specs.Session.{calls_before, stretches, Worked, StretchTold, Told, SessionTold};
 
 use crate::lines::{push_entries, push_open};
-use crate::memory::Memory;
 use fault::{Failure, TableFault};
 use reader::{read, smallest};
 use rows::RowRecord;
@@ -18,6 +17,7 @@ use script::Step;
 use sheet::Sheet;
 use std::alloc::{AllocError, Global};
 use table::Table;
+use table_memory::Memory;
 use terms::TermRecord;
 
 /// The sheet that the bytes describe.

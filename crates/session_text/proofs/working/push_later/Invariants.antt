@@ -2,7 +2,7 @@ use Rattle.std.proofs.Common.{ℕ, List, drop, string_bytes}
 use Rattle.sheet.specs.System.{System}
 use Rattle.reader.specs.Law.{ReadAs}
 use Rattle.rules.specs.declared.Counts.{Counts}
-use Rattle.session_text.specs.Memory.{IsRoom}
+use Rattle.table_memory.specs.Room.{IsRoom}
 use Rattle.session_text.specs.Session.{stretches, Told}
 use Rattle.session_text.proofs.working.push_later.Given as goal
 

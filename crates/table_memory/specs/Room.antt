@@ -1,8 +1,8 @@
--- The memory of a session's tables. Assumes nothing.
+-- Memory of the lengths that an open table needs. Assumes nothing.
 use Rattle.std.specs.Prelude.{vec_len}
 use Rattle.table.specs.Memory.{HasLengths}
-use Rattle.session_text.specs.declared.memory.Memory.{Memory}
+use Rattle.table_memory.specs.declared.Memory.{Memory}
 
--- a table fits into it
+-- Memory of the lengths that an open table needs. Assumes nothing.
 abbrev pub IsRoom : Memory → Type 0
 IsRoom m = HasLengths (vec_len m.bank) (vec_len m.rows) (vec_len m.marks) (vec_len m.work)
