@@ -13,7 +13,7 @@ abbrev pub holds_line : Counts → List ℕ
 holds_line c =
     word_number (codes "holds rows ") c.rows
     ++ (word_number (codes " kept ") c.kept
-        ++ (word_number (codes " merged ") c.merged ++ (word_number (codes " struck ") c.struck ++ codes "\n")))
+    ++ (word_number (codes " merged ") c.merged ++ (word_number (codes " struck ") c.struck ++ codes "\n")))
 
 abbrev pub open_line : ℕ → ℕ → List ℕ
 open_line w o = word_number (codes "open waiting ") w ++ (word_number (codes " out ") o ++ codes "\n")
