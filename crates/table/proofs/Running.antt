@@ -7,7 +7,12 @@ use Rattle.rules.specs.declared.Entry.{Entry}
 use Rattle.rules.proofs.Promised.{played_more}
 use Rattle.table.specs.declared.table.Table.{Table}
 use Rattle.table.specs.Answers.{answer_of, call_of}
-use Rattle.table.specs.Standing.{Performs, PlayedBy}
+use Rattle.table.specs.Standing.{Performs, PlayedBy, KeepsMemory}
+
+-- memory that is kept by one call and by the next is kept by both
+pub keeps_more : (old mid new : Table) → KeepsMemory old mid → KeepsMemory mid new → KeepsMemory old new
+keeps_more old mid new h w =
+    record { bank = w.bank ∙ h.bank; rows = w.rows ∙ h.rows; marks = w.marks ∙ h.marks; work = w.work ∙ h.work }
 
 -- one call more
 pub played_by_more : (old mid new : Table) (calls : List Call) (answers : List Answer) (call : Call) (answer : Answer) → PlayedBy old calls answers mid → Performs mid call answer new → PlayedBy old (calls ++ call ∷ []) (answers ++ answer ∷ []) new

@@ -52,6 +52,19 @@ abbrev pub Fits : Table → Type 0
 Fits table =
     HasLengths (length table.bank.now) (length table.rows.now) (length table.marks.now) (length table.work.now)
 
+-- the memory that a table is lent has these lengths
+pub record HasMemory (table : Table) (b r m w : ℕ) : Type 0 where
+  pub bank : length table.bank.now ≡ b
+  pub rows : length table.rows.now ≡ r
+  pub marks : length table.marks.now ≡ m
+  pub work : length table.work.now ≡ w
+
+-- a table has all the memory that it had, for this opening and for any later one
+abbrev pub KeepsMemory : Table → Table → Type 0
+KeepsMemory old new =
+    HasMemory new (length old.bank.now) (length old.rows.now) (length old.marks.now)
+    (length old.work.now)
+
 -- the table has no rows, whatever sheet and limit were asked
 abbrev pub IsUnopened : Table → Type 0
 IsUnopened table = (s : System) (limit : ℕ) → Stands s limit table unopened

@@ -4,7 +4,7 @@ ghost use Rattle.sheet.specs.View.{sheet_of};
 ghost use Rattle.rules.specs.Promises.{Opens, OpenRefused, Promises};
 ghost use Rattle.rules.specs.declared.Answer.{Answer};
 ghost use Rattle.table.specs.Answers.{answer_of, call_of};
-ghost use Rattle.table.specs.Standing.{Performs, PlayedBy, LeftBy, Fits, IsUnopened};
+ghost use Rattle.table.specs.Standing.{Performs, PlayedBy, LeftBy, Fits, IsUnopened, KeepsMemory};
 
 use crate::table::Table;
 use crate::ticket::{Refusal, Ticket};
@@ -17,7 +17,8 @@ impl Table<'_> {
     /// Makes one call. A call that names a ticket's branch is made with a ticket for it, as one from another table
     /// would be.
     pub fn make(&mut self, call: Call) -> Answer
-        ensures { Performs self.old call result self.new }
+        ensures performs { Performs self.old call result self.new }
+        ensures memory { KeepsMemory self.old self.new }
     {
         match call {
             Call::Take(branch) => match self.take(branch.row, branch.number) {
@@ -56,6 +57,7 @@ impl Table<'_> {
         ensures calls { map call_of entries.new ≡ map call_of entries.old }
         ensures played { PlayedBy self.old (map call_of entries.new)
             (map answer_of entries.new) self.new }
+        ensures memory { KeepsMemory self.old self.new }
     {
         for k in 0..entries.len() {
             entries[k].answer = self.make(entries[k].call);
@@ -78,6 +80,7 @@ impl Table<'_> {
             (map call_of entries.new) self.new) }
         ensures unanswered { IfErr result (λ _. entries.new ≡ entries.old) }
         ensures refused { IfErr result (λ _. IsUnopened self.new) }
+        ensures memory { KeepsMemory self.old self.new }
     {
         self.open(sheet, limit)?;
         self.make_all(entries);

@@ -3,7 +3,7 @@
 ghost use Rattle.std.specs.Prelude.{◌≡◌, IfErr};
 ghost use Rattle.rules.specs.declared.Call.{Call};
 ghost use Rattle.table.specs.Answers.{branch_of, answer_of_take, answer_of_offer, answer_of_strike, done, joined};
-ghost use Rattle.table.specs.Standing.{Performs};
+ghost use Rattle.table.specs.Standing.{Performs, KeepsMemory};
 
 use crate::mark::{Event, next_mark};
 use crate::offers::{cover, propose, refute};
@@ -16,8 +16,9 @@ use rules::Branch;
 impl Table<'_> {
     /// Takes a branch that waits: the ticket names it.
     pub fn take(&mut self, row: u8, number: u8) -> Result<Ticket, TableFault>
-        ensures { Performs self.old (Call.Take (record { row = row; number = number }))
+        ensures performs { Performs self.old (Call.Take (record { row = row; number = number }))
             (answer_of_take result) self.new }
+        ensures memory { KeepsMemory self.old self.new }
     {
         let branch = Branch { row, number };
         let Some(place) = self.place(branch) else {
@@ -28,7 +29,8 @@ impl Table<'_> {
     }
 
     fn give_branch(&mut self, branch: Branch) -> Result<(), TableFault>
-        ensures { Performs self.old (Call.GiveBack branch) (done result) self.new }
+        ensures performs { Performs self.old (Call.GiveBack branch) (done result) self.new }
+        ensures memory { KeepsMemory self.old self.new }
     {
         let (place, mark) = self.turn(branch, Event::GiveBack)?;
         self.marks[place] = mark;
@@ -40,13 +42,15 @@ impl Table<'_> {
         ensures performs { Performs self.old (Call.GiveBack (branch_of ticket))
             (answer_of_offer result) self.new }
         ensures unspent { IfErr result (λ refusal. refusal.ticket ≡ ticket) }
+        ensures memory { KeepsMemory self.old self.new }
     {
         let made = self.give_branch(ticket.branch);
         ticket.settle(made)
     }
 
     fn strike_branch(&mut self, branch: Branch) -> Result<u16, TableFault>
-        ensures { Performs self.old (Call.Strike branch) (joined result) self.new }
+        ensures performs { Performs self.old (Call.Strike branch) (joined result) self.new }
+        ensures memory { KeepsMemory self.old self.new }
     {
         let (place, mark) = self.turn(branch, Event::Strike)?;
         let record = self.rows[branch.row as usize];
@@ -74,13 +78,15 @@ impl Table<'_> {
         ensures performs { Performs self.old (Call.Strike (branch_of ticket))
             (answer_of_strike result) self.new }
         ensures unspent { IfErr result (λ refusal. refusal.ticket ≡ ticket) }
+        ensures memory { KeepsMemory self.old self.new }
     {
         let made = self.strike_branch(ticket.branch);
         ticket.settle(made)
     }
 
     fn merge_branch(&mut self, branch: Branch, target: u8, height: u8) -> Result<(), TableFault>
-        ensures { Performs self.old (Call.Merge branch target height) (done result) self.new }
+        ensures performs { Performs self.old (Call.Merge branch target height) (done result) self.new }
+        ensures memory { KeepsMemory self.old self.new }
     {
         let (place, mark) = self.turn(branch, Event::Merge)?;
         if target >= self.used {
@@ -117,13 +123,15 @@ impl Table<'_> {
         ensures performs { Performs self.old (Call.Merge (branch_of ticket) target height)
             (answer_of_offer result) self.new }
         ensures unspent { IfErr result (λ refusal. refusal.ticket ≡ ticket) }
+        ensures memory { KeepsMemory self.old self.new }
     {
         let made = self.merge_branch(ticket.branch, target, height);
         ticket.settle(made)
     }
 
     fn keep_branch(&mut self, branch: Branch, height: u8) -> Result<(), TableFault>
-        ensures { Performs self.old (Call.Keep branch height) (done result) self.new }
+        ensures performs { Performs self.old (Call.Keep branch height) (done result) self.new }
+        ensures memory { KeepsMemory self.old self.new }
     {
         let (place, mark) = self.turn(branch, Event::Keep)?;
         let branches = self.branches();
@@ -160,6 +168,7 @@ impl Table<'_> {
         ensures performs { Performs self.old (Call.Keep (branch_of ticket) height)
             (answer_of_offer result) self.new }
         ensures unspent { IfErr result (λ refusal. refusal.ticket ≡ ticket) }
+        ensures memory { KeepsMemory self.old self.new }
     {
         let made = self.keep_branch(ticket.branch, height);
         ticket.settle(made)

@@ -32,7 +32,7 @@ impl<'a> Table<'a> {
     ghost use Rattle.sheet.specs.System.{System};
     ghost use Rattle.rules.specs.Standing.{unopened};
     ghost use Rattle.table.specs.Memory.{HasLengths};
-    ghost use Rattle.table.specs.Standing.{Stands, Fits};
+    ghost use Rattle.table.specs.Standing.{Stands, Fits, HasMemory};
 
     /// A table that was never opened, over memory of any length.
     pub fn new(
@@ -42,6 +42,8 @@ impl<'a> Table<'a> {
         work: &'a mut [u16],
     ) -> Table<'a>
         ensures unopened { (s : System) (limit : ℕ) → Stands s limit result unopened }
+        ensures memory { HasMemory result (length bank.old) (length rows.old)
+            (length marks.old) (length work.old) }
         ensures fits { HasLengths (length bank.old) (length rows.old)
             (length marks.old) (length work.old) → Fits result }
     {
@@ -60,11 +62,12 @@ impl<'a> Table<'a> {
 
 impl Table<'_> {
     ghost use Rattle.sheet.specs.View.{sheet_of};
-    ghost use Rattle.table.specs.Standing.{Opened};
+    ghost use Rattle.table.specs.Standing.{Opened, KeepsMemory};
 
     /// Opens the table on a sheet, which it keeps, with a row limit; or opens it anew. After a refusal it has no rows.
     pub fn open(&mut self, sheet: Sheet, limit: u8) -> Result<(), TableFault>
-        ensures { Opened (sheet_of sheet) limit self.old self.new result }
+        ensures opened { Opened (sheet_of sheet) limit self.old self.new result }
+        ensures memory { KeepsMemory self.old self.new }
     {
         self.used = 0;
         self.sheet = None;

@@ -19,13 +19,13 @@ use Rattle.working.proofs.walking.work_branch.Goals as goal
 
 pub returns-in_default : goal.returns-in_default
 returns-in_default c = λ s limit at stands waits.
-    let w = c.in_default.ensures s limit at stands in
+    let w = c.in_default.ensures.performs s limit at stands in
     taken_never_refused s limit at c.args.branch c.in_default.field-0 w.0 waits w.1
 
 pub returns-in_default-settle : goal.returns-in_default-settle
 returns-in_default-settle c = λ s limit at stands waits.
     let b = c.args.branch in
-    let w = c.in-Ok.ensures s limit at stands in
+    let w = c.in-Ok.ensures.performs s limit at stands in
     let t = taken_out s limit at b (branch_of c.in-Ok.ticket) w.0 w.1 in
     let out = subst (λ (x : Branch). IsOut w.0 x) (sym t.named) t.is_out in
     let made = subst (λ (x : Branch). Made s limit w.0 (offers s x (length w.0.rows)) None c.settle.new.table) t.named (c.in_default-settle.ensures.tried s limit w.0 w.2 out) in
@@ -37,7 +37,7 @@ unreachable-requires c =
     let s = there.0 in
     let limit = there.1 in
     let at = there.2 in
-    let w = c.in-Ok.ensures s limit at there.3 in
+    let w = c.in-Ok.ensures.performs s limit at there.3 in
     let t = taken_out s limit at c.args.branch (branch_of c.in-Ok.ticket) w.0 w.1 in
     let out = subst (λ (x : Branch). IsOut w.0 x) (sym t.named) t.is_out in
     let made = c.in-Err.ensures.tried s limit w.0 w.2 out in
@@ -48,7 +48,7 @@ unreachable-requires c =
 pub returns : goal.returns
 returns c = λ s limit at stands waits.
     let b = c.args.branch in
-    let w = c.in-Ok.ensures s limit at stands in
+    let w = c.in-Ok.ensures.performs s limit at stands in
     let t = taken_out s limit at b (branch_of c.in-Ok.ticket) w.0 w.1 in
     let out = subst (λ (x : Branch). IsOut w.0 x) (sym t.named) t.is_out in
     let tried = c.in-Err.ensures.tried s limit w.0 w.2 out in

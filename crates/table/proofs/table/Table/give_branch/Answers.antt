@@ -6,14 +6,14 @@ use Rattle.table.specs.declared.mark.Event.TheVariants.{GiveBack}
 use Rattle.table.proofs.Marking.{offered, not_offered, marks_changed}
 use Rattle.table.proofs.table.Table.give_branch.Goals as goal
 
-pub returns-in_err-place : goal.returns-in_err-place
-returns-in_err-place c = λ s limit at stands.
+pub returns-in_err-place-clause-performs : goal.returns-in_err-place-clause-performs
+returns-in_err-place-clause-performs c = λ s limit at stands.
     let p = err_from_is_err_and c.from_residual.result c.from_residual.ensures.1 in
     let w = not_offered c.args.self.now s limit at stands c.args.branch GiveBack Waiting (λ x. refl) c.in_err-place.field-0.0 c.in_err-place.ensures in
     rw (p.1, p.2, w.0) (at, (w.1, refl), stands)
 
-pub returns : goal.returns
-returns c = λ s limit at stands.
+pub returns-clause-performs : goal.returns-clause-performs
+returns-clause-performs c = λ s limit at stands.
     let t = c.args.self.now in
     let b = c.args.branch in
     let m = c.in_ok-place.mark in

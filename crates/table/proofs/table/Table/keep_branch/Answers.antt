@@ -15,14 +15,14 @@ use Rattle.table.proofs.Offering.{same, same_limit, row_here, high, not_high, ro
 use Rattle.table.proofs.Growing.{extends_unless_made, marks_room, marks_grown, rows_grown}
 use Rattle.table.proofs.table.Table.keep_branch.Goals as goal
 
-pub returns-in_err-place : goal.returns-in_err-place
-returns-in_err-place c = λ s limit at stands.
+pub returns-in_err-place-clause-performs : goal.returns-in_err-place-clause-performs
+returns-in_err-place-clause-performs c = λ s limit at stands.
     let p = err_from_is_err_and c.from_residual.result c.from_residual.ensures.1 in
     let w = not_offered c.args.self.now s limit at stands c.args.branch Keep Kept (λ x. refl) c.in_err-place.field-0.0 c.in_err-place.ensures in
     rw (p.1, p.2, w.0) (at, (w.1, refl), stands)
 
-pub returns-then-height-sheet : goal.returns-then-height-sheet
-returns-then-height-sheet c = λ s limit at stands.
+pub returns-then-height-sheet-clause-performs : goal.returns-then-height-sheet-clause-performs
+returns-then-height-sheet-clause-performs c = λ s limit at stands.
     let t = c.args.self.now in
     let w = offered t s limit at stands c.args.branch Keep Kept (λ x. refl) c.in_ok-place.place c.in_ok-place.mark c.in_ok-place.ensures in (
       at,
@@ -75,8 +75,8 @@ invariant_of-self-in-Ok-3 c =
     let grown = fitting_more _ _ c.propose.new.bank _ _ _ _ _ _ c.wait.new.marks _ c.propose.new.labels f (extends_unless_made _ _ _ _ c.propose.result f.bank c.propose.ensures.kept) c.propose.auto.bank (c.wait.auto.marks ∙ length-set t.marks.now c.in_ok-place.place c.in_ok-place.mark) c.propose.auto.labels in
     record { fits = fits t.sheet c.in-Some.sheet c.in-Some.is _ _ _ _ _ _ _ (fitting_pushed _ _ _ _ _ _ _ _ c.in-Ok.form grown made.6 free) }
 
-pub returns-in-Ok : goal.returns-in-Ok
-returns-in-Ok c = λ s limit at stands.
+pub returns-in-Ok-clause-performs : goal.returns-in-Ok-clause-performs
+returns-in-Ok-clause-performs c = λ s limit at stands.
     let t = c.args.self.now in
     let b = c.args.branch in
     let sheet = c.in-Some.sheet in
@@ -105,8 +105,8 @@ returns-in-Ok c = λ s limit at stands.
       },
     )
 
-pub returns-in-Err : goal.returns-in-Err
-returns-in-Err c = λ s limit at stands.
+pub returns-in-Err-clause-performs : goal.returns-in-Err-clause-performs
+returns-in-Err-clause-performs c = λ s limit at stands.
     let t = c.args.self.now in
     let b = c.args.branch in
     let sheet = c.in-Some.sheet in

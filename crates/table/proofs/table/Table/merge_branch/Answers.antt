@@ -14,21 +14,21 @@ use Rattle.table.proofs.Offering.{same, row_here, high, not_high, rows_kept, ter
 use Rattle.table.proofs.Following.{extends_kept}
 use Rattle.table.proofs.table.Table.merge_branch.Goals as goal
 
-pub returns-in_err-place : goal.returns-in_err-place
-returns-in_err-place c = λ s limit at stands.
+pub returns-in_err-place-clause-performs : goal.returns-in_err-place-clause-performs
+returns-in_err-place-clause-performs c = λ s limit at stands.
     let p = err_from_is_err_and c.from_residual.result c.from_residual.ensures.1 in
     let w = not_offered c.args.self.now s limit at stands c.args.branch Merge Merged (λ x. refl) c.in_err-place.field-0.0 c.in_err-place.ensures in
     rw (p.1, p.2, w.0) (at, (w.1, refl), stands)
 
-pub returns-then-target-self : goal.returns-then-target-self
-returns-then-target-self c = λ s limit at stands.
+pub returns-then-target-self-clause-performs : goal.returns-then-target-self-clause-performs
+returns-then-target-self-clause-performs c = λ s limit at stands.
     let t = c.args.self.now in
     let w = offered t s limit at stands c.args.branch Merge Merged (λ x. refl) c.in_ok-place.place c.in_ok-place.mark c.in_ok-place.ensures in
     let past : length at.rows ≤ c.args.target = omega (arith, rows_many t s limit at stands, c.if-target-self.true) in
     (at, ((w.0, slice_get_past at.rows c.args.target past), refl), stands)
 
-pub returns-then-height-sheet : goal.returns-then-height-sheet
-returns-then-height-sheet c = λ s limit at stands.
+pub returns-then-height-sheet-clause-performs : goal.returns-then-height-sheet-clause-performs
+returns-then-height-sheet-clause-performs c = λ s limit at stands.
     let t = c.args.self.now in
     let sheet = c.in-Some.sheet in
     let w = offered t s limit at stands c.args.branch Merge Merged (λ x. refl) c.in_ok-place.place c.in_ok-place.mark c.in_ok-place.ensures in
@@ -56,8 +56,8 @@ invariant_of-self-in-Ok c =
           (fitting_more _ _ _ _ _ _ _ _ _ _ _ _ f (extends_kept _ _ _ _ f.bank c.cover.ensures.kept) c.cover.auto.bank (length-set t.marks.now c.in_ok-place.place c.in_ok-place.mark) c.cover.auto.labels);
     }
 
-pub returns-in-Ok : goal.returns-in-Ok
-returns-in-Ok c = λ s limit at stands.
+pub returns-in-Ok-clause-performs : goal.returns-in-Ok-clause-performs
+returns-in-Ok-clause-performs c = λ s limit at stands.
     let t = c.args.self.now in
     let b = c.args.branch in
     let m = c.in_ok-place.mark in
@@ -80,8 +80,8 @@ returns-in-Ok c = λ s limit at stands.
       },
     )
 
-pub returns-in-Err : goal.returns-in-Err
-returns-in-Err c = λ s limit at stands.
+pub returns-in-Err-clause-performs : goal.returns-in-Err-clause-performs
+returns-in-Err-clause-performs c = λ s limit at stands.
     let t = c.args.self.now in
     let b = c.args.branch in
     let sheet = c.in-Some.sheet in

@@ -8,8 +8,8 @@ use Rattle.rules.specs.declared.Mark.TheVariants.{Waiting}
 use Rattle.rules.specs.Standing.{branches}
 use Rattle.table.proofs.table.Table.open.Goals as goal
 
-pub returns-in-Ok : goal.returns-in-Ok
-returns-in-Ok c =
+pub returns-in-Ok-clause-opened : goal.returns-in-Ok-clause-opened
+returns-in-Ok-clause-opened c =
     let t = c.args.self.now in
     let s = sheet_of c.args.sheet in
     let begun = c.in-Ok.ensures in

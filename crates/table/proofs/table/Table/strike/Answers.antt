@@ -9,4 +9,4 @@ use Rattle.table.proofs.table.Table.strike.Goals as goal
 pub returns-clause-performs : goal.returns-clause-performs
 returns-clause-performs c =
     subst (λ (answer : Answer). Performs c.args.self.now (Strike c.args.ticket.branch) answer c.strike_branch-made.new.self)
-    (joined_settled c.args.ticket c.strike_branch-made.result ∙ ap answer_of_strike (sym c.settle.ensures)) c.strike_branch-made.ensures
+    (joined_settled c.args.ticket c.strike_branch-made.result ∙ ap answer_of_strike (sym c.settle.ensures)) c.strike_branch-made.ensures.performs

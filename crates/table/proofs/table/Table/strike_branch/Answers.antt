@@ -13,8 +13,8 @@ use Rattle.table.proofs.Offering.{same, row_here, rows_kept, terms_kept, struck,
 use Rattle.table.proofs.Following.{extends_kept}
 use Rattle.table.proofs.table.Table.strike_branch.Goals as goal
 
-pub returns-in_err-place : goal.returns-in_err-place
-returns-in_err-place c = λ s limit at stands.
+pub returns-in_err-place-clause-performs : goal.returns-in_err-place-clause-performs
+returns-in_err-place-clause-performs c = λ s limit at stands.
     let p = err_from_is_err_and c.from_residual.result c.from_residual.ensures.1 in
     let w = not_offered c.args.self.now s limit at stands c.args.branch Strike Struck (λ x. refl) c.in_err-place.field-0.0 c.in_err-place.ensures in
     rw (p.1, p.2, w.0) (at, (w.1, refl), stands)
@@ -28,8 +28,8 @@ invariant_of-self-2 c =
           (fitting_more _ _ _ _ _ _ _ _ _ _ _ _ f (extends_kept _ _ _ _ f.bank c.refute.ensures.kept) c.refute.auto.bank refl c.refute.auto.labels);
     }
 
-pub returns-in-Ok : goal.returns-in-Ok
-returns-in-Ok c = λ s limit at stands.
+pub returns-in-Ok-clause-performs : goal.returns-in-Ok-clause-performs
+returns-in-Ok-clause-performs c = λ s limit at stands.
     let t = c.args.self.now in
     let b = c.args.branch in
     let m = c.in_ok-place.mark in
@@ -49,8 +49,8 @@ returns-in-Ok c = λ s limit at stands.
       },
     )
 
-pub returns-in-Err : goal.returns-in-Err
-returns-in-Err c = λ s limit at stands.
+pub returns-in-Err-clause-performs : goal.returns-in-Err-clause-performs
+returns-in-Err-clause-performs c = λ s limit at stands.
     let t = c.args.self.now in
     let b = c.args.branch in
     let w = offered t s limit at stands b Strike Struck (λ x. refl) c.in_ok-place.place c.in_ok-place.mark c.in_ok-place.ensures in

@@ -5,19 +5,19 @@ use Rattle.rules.specs.Standing.{marked}
 use Rattle.table.proofs.Marking.{mark_absent, marks_changed, taken, not_taken}
 use Rattle.table.proofs.table.Table.take.Goals as goal
 
-pub returns-in_default : goal.returns-in_default
-returns-in_default c = λ s limit at stands.
+pub returns-in_default-clause-performs : goal.returns-in_default-clause-performs
+returns-in_default-clause-performs c = λ s limit at stands.
     let b : Branch = record { row = c.args.row; number = c.args.number } in
     (at, (mark_absent c.args.self.now s limit at stands b c.in_default.ensures, refl), stands)
 
-pub returns-in_err-self : goal.returns-in_err-self
-returns-in_err-self c = λ s limit at stands.
+pub returns-in_err-self-clause-performs : goal.returns-in_err-self-clause-performs
+returns-in_err-self-clause-performs c = λ s limit at stands.
     let b : Branch = record { row = c.args.row; number = c.args.number } in
     let p = err_from_is_err_and c.from_residual.result c.from_residual.ensures.1 in
     rw (p.1, p.2) (at, (not_taken c.args.self.now s limit at stands b c.in-Some.place c.in_err-self.field-0.0 c.in-Some.ensures (sym c.in_err-self.ensures), refl), stands)
 
-pub returns : goal.returns
-returns c = λ s limit at stands.
+pub returns-clause-performs : goal.returns-clause-performs
+returns-clause-performs c = λ s limit at stands.
     let t = c.args.self.now in
     let b : Branch = record { row = c.args.row; number = c.args.number } in
     let p = c.in-Some.ensures in
