@@ -38,15 +38,23 @@ impl Table<'_> {
 
     /// How many branches each row has; 0 where the table has no rows.
     pub fn branches_per_row(&self) -> u8
-        ensures { Tells self.now (λ s at. 0 < length at.rows → result ≡ branches s) }
+        ensures branches { Tells self.now (λ s at. 0 < length at.rows → result ≡ branches s) }
+        ensures none { Tells self.now (λ s at. length at.rows ≡ 0 → result ≡ 0) }
     {
+        if self.rows() == 0 {
+            return 0;
+        }
         self.branches() as u8
     }
 
     /// The height bound of the table's sheet; 0 where the table has no rows.
     pub fn bound(&self) -> u8
-        ensures { Tells self.now (λ s at. 0 < length at.rows → s.bound ≡ Some result) }
+        ensures bound { Tells self.now (λ s at. 0 < length at.rows → s.bound ≡ Some result) }
+        ensures none { Tells self.now (λ s at. length at.rows ≡ 0 → result ≡ 0) }
     {
+        if self.rows() == 0 {
+            return 0;
+        }
         match &self.sheet {
             Some(sheet) => sheet.bound,
             None => 0,

@@ -16,7 +16,7 @@ returns-in-Ok-clause-made c = λ s limit at stands out.
     let on = c.loop-target.invariant.onward s limit at stands out in
     let w = c.in-Ok.ensures.performs s limit at on.0 in
     let answered = subst (λ (k : Ticket). Answered s limit at (Merge (branch_of k) c.loop-target.target c.bound-height.result) Done w.0) c.loop-target.invariant.same w.1 in
-    merge_accepted s limit at b (length at.rows) c.bound-height.result (c.bound-height.ensures s limit at stands (omega (arith, rows))) c.loop-target.target w.0 c.merge.new.self (omega (arith, many, c.loop-target-test.true)) answered on.1 w.2
+    merge_accepted s limit at b (length at.rows) c.bound-height.result (c.bound-height.ensures.bound s limit at stands (omega (arith, rows))) c.loop-target.target w.0 c.merge.new.self (omega (arith, many, c.loop-target-test.true)) answered on.1 w.2
 
 pub loop-target-preserved : goal.loop-target-preserved
 loop-target-preserved c = record {
@@ -28,7 +28,7 @@ loop-target-preserved c = record {
       let on = c.loop-target.invariant.onward s limit at stands out in
       let w = c.in-Err.ensures.performs s limit at on.0 in
       let answered = subst (λ (k : Ticket). Answered s limit at (Merge (branch_of k) c.loop-target.target c.bound-height.result) (Refused c.in-Err.field-0.fault) w.0) c.loop-target.invariant.same w.1 in
-      merge_refused s limit at b (length at.rows) c.bound-height.result (c.bound-height.ensures s limit at stands (omega (arith, rows))) c.loop-target.target c.in-Err.field-0.fault w.0 c.merge.new.self (omega (arith, many, c.loop-target-test.true)) answered on.1 w.2);
+      merge_refused s limit at b (length at.rows) c.bound-height.result (c.bound-height.ensures.bound s limit at stands (omega (arith, rows))) c.loop-target.target c.in-Err.field-0.fault w.0 c.merge.new.self (omega (arith, many, c.loop-target-test.true)) answered on.1 w.2);
 }
 
 pub returns-clause-made : goal.returns-clause-made
@@ -39,4 +39,4 @@ returns-clause-made c = λ s limit at stands out.
     let on = c.loop-target.invariant.onward s limit at stands out in
     let w = c.keep.ensures.performs s limit at on.0 in
     let answered = subst (λ (k : Ticket). Answered s limit at (Keep (branch_of k) c.bound-height.result) (answer_of_offer c.keep.result) w.0) c.loop-target.invariant.same w.1 in
-    keep_made s limit at b (length at.rows) c.bound-height.result (c.bound-height.ensures s limit at stands (omega (arith, rows))) c.loop-target.target c.keep.result w.0 c.keep.new.self (omega (arith, many, c.loop-target-test.false)) answered on.1 w.2
+    keep_made s limit at b (length at.rows) c.bound-height.result (c.bound-height.ensures.bound s limit at stands (omega (arith, rows))) c.loop-target.target c.keep.result w.0 c.keep.new.self (omega (arith, many, c.loop-target-test.false)) answered on.1 w.2

@@ -9,7 +9,7 @@ loop-number-init c = λ s limit at stands row. row_begun s limit at c.args.row c
 pub loop-number-preserved-then-not-waits : goal.loop-number-preserved-then-not-waits
 loop-number-preserved-then-not-waits c = λ s limit at stands row.
     let r = c.loop-number.invariant s limit at stands row in
-    let many = c.branches_per_row-number-end.ensures s limit at stands (omega (arith, row)) in
+    let many = c.branches_per_row-number-end.ensures.branches s limit at stands (omega (arith, row)) in
     let few : c.loop-number.number < branches s = omega (arith, many, c.loop-number-test.true) in
     let there = c.waits.ensures.there s limit r.mid r.stands (let g = r.more in omega (arith, row, g)) few in
     let other = waits_false _ there (sym (c.waits.ensures.waits s limit r.mid r.stands) ∙ c.if-not-waits.true) in
@@ -18,7 +18,7 @@ loop-number-preserved-then-not-waits c = λ s limit at stands row.
 pub returns-in-Some : goal.returns-in-Some
 returns-in-Some c = λ s limit at stands row.
     let r = c.loop-number.invariant s limit at stands row in
-    let many = c.branches_per_row-number-end.ensures s limit at stands (omega (arith, row)) in
+    let many = c.branches_per_row-number-end.ensures.branches s limit at stands (omega (arith, row)) in
     let few : c.loop-number.number < branches s = omega (arith, many, c.loop-number-test.true) in
     let waits = waits_true _ (sym (c.waits.ensures.waits s limit r.mid r.stands) ∙ c.if-not-waits.false) in
     row_on s limit at c.args.row c.loop-number.number few c.loop-number.table c.work_branch.new.table (Some c.in-Some.outcome) r (c.in-Some.ensures s limit r.mid r.stands waits)
@@ -26,12 +26,12 @@ returns-in-Some c = λ s limit at stands row.
 pub loop-number-preserved : goal.loop-number-preserved
 loop-number-preserved c = λ s limit at stands row.
     let r = c.loop-number.invariant s limit at stands row in
-    let many = c.branches_per_row-number-end.ensures s limit at stands (omega (arith, row)) in
+    let many = c.branches_per_row-number-end.ensures.branches s limit at stands (omega (arith, row)) in
     let few : c.loop-number.number < branches s = omega (arith, many, c.loop-number-test.true) in
     let waits = waits_true _ (sym (c.waits.ensures.waits s limit r.mid r.stands) ∙ c.if-not-waits.false) in
     row_on s limit at c.args.row c.loop-number.number few c.loop-number.table c.work_branch.new.table None r (c.in_default.ensures s limit r.mid r.stands waits)
 
 pub returns : goal.returns
 returns c = λ s limit at stands row.
-    let many = c.branches_per_row-number-end.ensures s limit at stands (omega (arith, row)) in
+    let many = c.branches_per_row-number-end.ensures.branches s limit at stands (omega (arith, row)) in
     row_done s limit at c.args.row c.loop-number.number c.loop-number.table (omega (arith, many, c.loop-number-test.false)) (c.loop-number.invariant s limit at stands row)
