@@ -16,7 +16,7 @@ use sheet::Sheet;
 impl Table<'_> {
     /// Makes one call. A call that names a ticket's branch is made with a ticket for it, as one from another table
     /// would be.
-    pub fn make(&mut self, call: Call) -> Answer
+    pub(crate) fn make(&mut self, call: Call) -> Answer
         ensures performs { Performs self.old call result self.new }
         ensures memory { KeepsMemory self.old self.new }
     {

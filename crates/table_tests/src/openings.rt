@@ -3,7 +3,7 @@ use crate::memory::{HOPPER, Lengths, Memory, NOTHING, WHOLE, sheet_of};
 use fault::TableFault;
 use rules::{Answer, Branch, Call, Entry};
 use std::test::Fail;
-use table::Table;
+use table::{Table, Verdict};
 
 // A bit that starts raised, and must not be.
 const BROKEN: &[u8] = b"B\x01L\x01\x00\x00L\x04\x00\x00V\x01H\x00E";
@@ -182,7 +182,7 @@ fn is_empty(table: &mut Table) -> bool {
         entry.answer = Answer::Holds;
     }
     table.make_all(&mut entries);
-    entries == ENTRIES && table.counts() == NOTHING && table.make(Call::Verdict) != Answer::Holds
+    entries == ENTRIES && table.counts() == NOTHING && table.verdict() != Verdict::Holds
 }
 
 #[test]
