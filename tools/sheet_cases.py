@@ -1,124 +1,15 @@
 #!/usr/bin/env python3
-"""A second reader of sheets, written on its own from docs/SHEET.md, and the cases that both are run on.
+"""The cases of sheets that the reader and a second one, tools/second/reader.py, are both run on.
 
 Writes crates/reader_cases/stdin (a sheet to a line, in hexadecimal) and crates/reader_cases/stdout (what each
 comes to). Run it after a change of the cases: tools/sheet_cases.py
 """
 import os
 import random
+import sys
 
-LENGTH = dict(B=1, F=1, R=2, I=0, T=5, Q=2, C=2, L=3, K=4, N=2, M=2, V=1, H=1, E=0)
-MOST = dict(B=16, F=32, R=6, I=4, T=64, Q=6, C=4, L=64, K=64)
-
-
-class Wrong(Exception):
-    pass
-
-
-def need(test):
-    if not test:
-        raise Wrong
-
-
-class Sheet:
-    def __init__(self):
-        self.n = {c: 0 for c in MOST}
-        self.arity, self.height, self.input = [], [], []
-        self.question, self.claim = [], []
-        self.given = set()
-
-    def body(self, c, b):
-        """Raises Wrong where a body byte is against the table or the rules; else returns what is given once."""
-        n = self.n
-        if c == 'B':
-            need(b[0] <= 1)
-        elif c == 'F':
-            need(b[0] <= 3)
-            self.arity.append(b[0])
-        elif c == 'R':
-            need(b[0] <= 1)
-            need(b[1] < 8 if b[0] == 0 else (b[1] < n['F'] and self.arity[b[1]] == 0))
-        elif c == 'T':
-            way, k, args = b[0], b[1], b[2:]
-            need(way <= 2)
-            if way == 2:
-                need(k < n['F'])
-                used = args[:self.arity[k]]
-                need(all(a < n['T'] for a in used) and all(a == 0 for a in args[self.arity[k]:]))
-                h = 1 + max(self.height[a] for a in used) if used else 0
-                need(h <= 4)
-                self.height.append(h)
-                self.input.append(any(self.input[a] for a in used))
-            else:
-                need(args == [0, 0, 0] and k < (n['R'] if way == 0 else n['I']))
-                self.height.append(0)
-                self.input.append(way == 1)
-        elif c in 'QC':
-            need(b[0] < n['T'] and b[1] < n['T'])
-            need(c == 'Q' or not (self.input[b[0]] or self.input[b[1]]))
-        elif c == 'L':
-            way, x, y = b
-            need(way <= 6)
-            need(y == 0 or way >= 5)
-            if way == 0:
-                need(x == 0)
-            else:
-                need(x < n['?BQCLLL'[way]])
-            if way >= 5:
-                need(y < n['L'])
-            parts = [x] if way == 4 else [x, y] if way >= 5 else []
-            self.question.append(way == 2 or any(self.question[p] for p in parts))
-            self.claim.append(way == 3 or any(self.claim[p] for p in parts))
-        elif c == 'K':
-            way, x, y, z = b
-            need(way <= 1)
-            if way == 0:
-                need(y == 0 and z == 0 and x < n['T'])
-            else:
-                need(x < n['L'] and y < n['K'] and z < n['K'] and not self.claim[x])
-        elif c == 'N':
-            need(b[0] < n['B'] and b[1] < n['L'] and not self.claim[b[1]])
-        elif c == 'M':
-            need(b[0] < n['R'] and b[1] < n['K'])
-        elif c == 'V':
-            need(b[0] < n['L'] and not self.question[b[0]])
-        elif c == 'H':
-            need(b[0] <= 4)
-        return (c, b[0] if c in 'NM' else 0) if c in 'NMVH' else None
-
-
-def outcome(data):
-    s, at, number = Sheet(), 0, 0
-
-    def fault(k):
-        return f'sheet fault {k} record {number} byte {at}'
-
-    while True:
-        if at == len(data):
-            return fault(1)
-        c = chr(data[at])
-        if c not in LENGTH:
-            return fault(2)
-        end = at + 1 + LENGTH[c]
-        if end > len(data):
-            return fault(1)
-        if c == 'E':
-            if not {('V', 0), ('H', 0)} <= s.given:
-                return fault(6)
-            return fault(7) if end < len(data) else f'sheet ok records {number + 1}'
-        if c in MOST and s.n[c] == MOST[c]:
-            return fault(4)
-        try:
-            once = s.body(c, list(data[at + 1:end]))
-        except Wrong:
-            return fault(3)
-        if once:
-            if once in s.given:
-                return fault(5)
-            s.given.add(once)
-        if c in MOST:
-            s.n[c] += 1
-        at, number = end, number + 1
+sys.dont_write_bytecode = True                                     # the import leaves nothing behind in tools/
+from second.reader import MOST, outcome  # noqa: E402
 
 
 def sheet(text):
