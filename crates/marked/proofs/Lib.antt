@@ -4,3 +4,4 @@ pub mod Facts
 pub mod Holding
 pub mod Ending
 pub mod Small
+pub mod Printing

@@ -12,6 +12,7 @@ use Rattle.terms.specs.declared.Sign.TheVariants.{Equal, Different}
 use Rattle.terms.specs.Terms.{name, unary, binary, height, Literal, Sat}
 use Rattle.marked.specs.Sheets.{hopper_bytes, bound_0_bytes, without_m_bytes, hopper, hopper_bound_0, hopper_without_m}
 use Rattle.marked.specs.Works.{Holding, Unknown}
+use Rattle.marked.specs.Printed.{PrintedLines}
 
 -- the starts 5, 7, then zeros
 abbrev pub starts : List ℕ
@@ -69,6 +70,8 @@ pub record MarkedCases : Type 0 where
   -- with the height bound 0, and without M, it is unknown at row 0, branch 1
   pub bound_0_unknown : Unknown hopper_bound_0 0
   pub without_m_unknown : Unknown hopper_without_m 1
+  -- what is printed of their bytes
+  pub lines : PrintedLines
   -- runs, a cut, conditions and merges
   pub runs : BenchCases
   pub cuts : CutCase

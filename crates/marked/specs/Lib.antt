@@ -1,3 +1,4 @@
 pub mod Sheets
 pub mod Works
+pub mod Printed
 pub mod Cases
