@@ -76,7 +76,8 @@ fn sheet_line(heap: Global, sheet: Sheet) -> Result<String, AllocError>
 /// The line that is printed of the sheet in the bytes, with its line end.
 pub fn verdict_line(heap: Global, bytes: &[u8]) -> Result<String, AllocError>
     ensures line { IfOk result (λ t. Checked bytes.now (string_bytes t)) }
-    ensures holds { IfOk result (λ t. IsTrue (starts_with nat_eq (string_bytes t) (codes "holds")) → Proven bytes.now) }
+    ensures holds { IfOk result (λ t. IsTrue (starts_with nat_eq (string_bytes t) (codes "holds"))
+        → Proven bytes.now) }
 {
     let mut sheet = smallest(heap)?;
     match read(bytes, heap, &mut sheet) {

@@ -1,5 +1,6 @@
 -- What the work on a table has come to after a part of it. Assumes nothing.
-use Rattle.std.specs.Prelude.{◌≡◌, ◌<◌, ◌≤◌, ◌-◌, ◌+◌, ℕ, Bool, false, List, [], ◌∷◌, ◌++◌, length, Ok, Err, Option, None, Some, Result}
+use Rattle.std.specs.Prelude.{◌≡◌, ◌<◌, ◌≤◌, ◌-◌, ◌+◌, ℕ, Bool, false, List, [], ◌∷◌, ◌++◌, length}
+use Rattle.std.specs.Prelude.{Ok, Err, Option, None, Some, Result}
 use Rattle.fault.specs.declared.TableFault.{TableFault}
 use Rattle.fault.specs.declared.TableFault.TheVariants.{UnsafeForm}
 use Rattle.sheet.specs.System.{System}
@@ -11,7 +12,8 @@ use Rattle.rules.specs.declared.Mark.{Mark}
 use Rattle.rules.specs.declared.Mark.TheVariants.{Waiting, Out}
 use Rattle.rules.specs.declared.Outcome.{Outcome}
 use Rattle.rules.specs.Standing.{Standing, mark_of, is_waiting}
-use Rattle.rules.specs.Working.{bound_of, first_branch, following, merges_from, offers, Offered, WorksFrom}
+use Rattle.rules.specs.Working.{bound_of, first_branch, following, merges_from, offers}
+use Rattle.rules.specs.Working.{Offered, WorksFrom}
 use Rattle.table.specs.declared.table.Table.{Table}
 use Rattle.table.specs.declared.ticket.Refusal.{Refusal}
 use Rattle.table.specs.Standing.{Stands}
@@ -22,7 +24,8 @@ fault_of (Ok done) = None
 fault_of (Err refusal) = Some refusal.fault
 
 -- offers were made by the rules, and the table stands for what they came to
-pub record Made (s : System) (limit : ℕ) (at : Standing) (offs : List Call) (end : Option TableFault) (new : Table) : Type 0 where
+pub record Made (s : System) (limit : ℕ) (at : Standing) (offs : List Call)
+    (end : Option TableFault) (new : Table) : Type 0 where
   pub made : List Call
   pub given : List Answer
   pub after : Standing
@@ -31,7 +34,8 @@ pub record Made (s : System) (limit : ℕ) (at : Standing) (offs : List Call) (e
 
 -- merges into the rows from `target` on, and a keep, of a table with n rows
 abbrev pub merges_and_keep : System → Branch → ℕ → ℕ → List Call
-merges_and_keep s b target n = merges_from b (bound_of s) target (n - target) ++ Keep b (bound_of s) ∷ []
+merges_and_keep s b target n =
+    merges_from b (bound_of s) target (n - target) ++ Keep b (bound_of s) ∷ []
 
 -- of a branch that is out, the merges and the keep were made
 abbrev pub MergedOrKept : Table → Branch → Table → Result Unit Refusal → Type 0
@@ -48,18 +52,22 @@ Tried old b new result =
 -- where the work goes on from one branch and standing, it goes on from another
 abbrev pub Advances : System → ℕ → Standing → Branch → Standing → Branch → Type 0
 Advances s limit at b mid next =
-    (calls : List Call) (answers : List Answer) (outcome : Outcome) (after : Standing) → WorksFrom s limit mid next calls answers outcome after
-    → (calls' : List Call) × (answers' : List Answer) × WorksFrom s limit at b calls' answers' outcome after
+    (calls : List Call) (answers : List Answer) (outcome : Outcome) (after : Standing)
+    → WorksFrom s limit mid next calls answers outcome after
+    → (calls' : List Call) × (answers' : List Answer)
+    × WorksFrom s limit at b calls' answers' outcome after
 
 -- the work from branch b has come to the next one, on a table that stands for what it came to
-pub record Reached (s : System) (limit : ℕ) (at : Standing) (b next : Branch) (new : Table) : Type 0 where
+pub record Reached (s : System) (limit : ℕ) (at : Standing) (b next : Branch) (new : Table)
+    : Type 0 where
   pub mid : Standing
   pub advances : Advances s limit at b mid next
   pub more : length at.rows ≤ length mid.rows
   pub stands : Stands s limit new mid
 
 -- the work from branch b has ended
-pub record Ended (s : System) (limit : ℕ) (at : Standing) (b : Branch) (outcome : Outcome) (new : Table) : Type 0 where
+pub record Ended (s : System) (limit : ℕ) (at : Standing) (b : Branch)
+    (outcome : Outcome) (new : Table) : Type 0 where
   pub calls : List Call
   pub answers : List Answer
   pub after : Standing
@@ -79,7 +87,8 @@ ending b _ = Outcome.Full b
 -- the work on a branch that waits
 abbrev pub BranchWorked : Table → Branch → Table → Option Outcome → Type 0
 BranchWorked old b new result =
-    (s : System) (limit : ℕ) (at : Standing) → Stands s limit old at → mark_of at b ≡ Some Waiting → Worked s limit at b (following s b) result new
+    (s : System) (limit : ℕ) (at : Standing) → Stands s limit old at → mark_of at b ≡ Some Waiting
+    → Worked s limit at b (following s b) result new
 
 -- whether a mark that is there is that of a branch that waits
 abbrev pub waits_in : Option Mark → Bool
@@ -93,8 +102,11 @@ first_of row = record { row = row; number = 0 }
 -- the work on a row
 abbrev pub RowWorked : Table → ℕ → Table → Option Outcome → Type 0
 RowWorked old row new result =
-    (s : System) (limit : ℕ) (at : Standing) → Stands s limit old at → row < length at.rows → Worked s limit at (first_of row) (first_of (row + 1)) result new
+    (s : System) (limit : ℕ) (at : Standing) → Stands s limit old at → row < length at.rows
+    → Worked s limit at (first_of row) (first_of (row + 1)) result new
 
 -- the work on a whole table
 abbrev pub TableWorked : Table → Table → Outcome → Type 0
-TableWorked old new outcome = (s : System) (limit : ℕ) (at : Standing) → Stands s limit old at → Ended s limit at first_branch outcome new
+TableWorked old new outcome =
+    (s : System) (limit : ℕ) (at : Standing) → Stands s limit old at
+    → Ended s limit at first_branch outcome new

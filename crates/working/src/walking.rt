@@ -3,7 +3,7 @@ ghost use Rattle.std.specs.Prelude.{◌≡◌, ◌+◌, ◌-◌, ◌<◌, ◌≤
 ghost use Rattle.std.specs.List.{range_with_len};
 ghost use Rattle.queue.specs.Entries.{entries, room};
 ghost use Rattle.rules.specs.Standing.{branches, mark_of};
-ghost use Rattle.table.specs.Standing.{Tells};
+ghost use Rattle.table.specs.Standing.{KeepsMemory, Tells};
 ghost use Rattle.working.specs.Work.{BranchWorked, RowWorked, TableWorked, ending, waits_in};
 
 use crate::offering::settle;
@@ -26,7 +26,8 @@ fn ending(branch: Branch, fault: TableFault) -> Outcome
 
 /// Settles a branch that waits. Where no offer on it is accepted it is given back, and the work ends.
 fn work_branch(table: &mut Table, branch: Branch) -> Option<Outcome>
-    ensures { BranchWorked table.old branch table.new result }
+    ensures worked { BranchWorked table.old branch table.new result }
+    ensures memory { KeepsMemory table.old table.new }
 {
     let Ok(ticket) = table.take(branch.row, branch.number) else {
         return None;
@@ -56,7 +57,8 @@ fn waits(table: &Table, branch: Branch) -> bool
 
 /// Works the branches of a row, in order, passing any that does not wait.
 fn work_row(table: &mut Table, row: u8) -> Option<Outcome>
-    ensures { RowWorked table.old row table.new result }
+    ensures worked { RowWorked table.old row table.new result }
+    ensures memory { KeepsMemory table.old table.new }
 {
     for number in 0..table.branches_per_row() {
         let branch = Branch { row, number };
@@ -84,7 +86,8 @@ fn enqueue(due: &mut Queue<u8>, from: u8, to: u8)
 /// Works the table through: over its rows in order, also those that it keeps on the way, and their branches in order. The
 /// rows that are still due wait in a queue.
 pub fn work_through(table: &mut Table) -> Outcome
-    ensures { TableWorked table.old table.new result }
+    ensures worked { TableWorked table.old table.new result }
+    ensures memory { KeepsMemory table.old table.new }
 {
     let mut slots = [0u8; MOST_ROWS];
     let mut due = Queue::new(&mut slots);

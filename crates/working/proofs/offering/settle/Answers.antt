@@ -5,6 +5,7 @@ use Rattle.table.specs.declared.ticket.Ticket.{Ticket}
 use Rattle.table.specs.Answers.{branch_of}
 use Rattle.table.specs.Standing.{Stands}
 use Rattle.working.specs.Work.{Made, merges_and_keep, fault_of}
+use Rattle.table.proofs.Running.{keeps_more}
 use Rattle.working.proofs.Offers.{strike_accepted, strike_refused}
 use Rattle.working.proofs.offering.settle.Goals as goal
 
@@ -22,3 +23,6 @@ returns-in-Err-clause-tried c = λ s limit at stands out.
     let made = c.merge_or_keep.ensures.made s limit at still (subst (λ (k : Ticket). mark_of at (branch_of k) ≡ Some Out) (sym same) out) in
     strike_refused s limit at b (length at.rows) c.in-Err.field-0.fault (fault_of c.merge_or_keep.result) c.merge_or_keep.new.table (w.1.0, refl)
     (subst (λ (k : Ticket). Made s limit at (merges_and_keep s (branch_of k) 0 (length at.rows)) (fault_of c.merge_or_keep.result) c.merge_or_keep.new.table) same made)
+
+pub returns-in-Err-clause-memory : goal.returns-in-Err-clause-memory
+returns-in-Err-clause-memory c = keeps_more c.args.table.now c.strike.new.self c.merge_or_keep.new.table c.in-Err.ensures.memory c.merge_or_keep.ensures.memory

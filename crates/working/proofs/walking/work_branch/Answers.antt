@@ -13,17 +13,18 @@ use Rattle.table.specs.Answers.{branch_of}
 use Rattle.table.specs.Standing.{Stands}
 use Rattle.table.proofs.Always.{always_stands}
 use Rattle.working.specs.Work.{Ended, Made}
+use Rattle.table.proofs.Running.{keeps_more}
 use Rattle.working.proofs.Offers.{bound_there, marked_row, stays_refused}
 use Rattle.working.proofs.Walks.{taken_never_refused, taken_out, branch_settled, branch_stopped, given_never_refused}
 use Rattle.working.proofs.walking.work_branch.Goals as goal
 
-pub returns-in_default : goal.returns-in_default
-returns-in_default c = λ s limit at stands waits.
+pub returns-in_default-clause-worked : goal.returns-in_default-clause-worked
+returns-in_default-clause-worked c = λ s limit at stands waits.
     let w = c.in_default.ensures.performs s limit at stands in
     taken_never_refused s limit at c.args.branch c.in_default.field-0 w.0 waits w.1
 
-pub returns-in_default-settle : goal.returns-in_default-settle
-returns-in_default-settle c = λ s limit at stands waits.
+pub returns-in_default-settle-clause-worked : goal.returns-in_default-settle-clause-worked
+returns-in_default-settle-clause-worked c = λ s limit at stands waits.
     let b = c.args.branch in
     let w = c.in-Ok.ensures.performs s limit at stands in
     let t = taken_out s limit at b (branch_of c.in-Ok.ticket) w.0 w.1 in
@@ -45,8 +46,8 @@ unreachable-requires c =
     let back = c.in-Err-give_back.ensures.performs s limit w.0 still in
     given_never_refused s limit w.0 (branch_of c.in-Err.field-0.ticket) c.in-Err-give_back._refusal.fault back.0 (subst (λ (k : Ticket). IsOut w.0 (branch_of k)) (sym c.in-Err.ensures.unspent) out) back.1
 
-pub returns : goal.returns
-returns c = λ s limit at stands waits.
+pub returns-clause-worked : goal.returns-clause-worked
+returns-clause-worked c = λ s limit at stands waits.
     let b = c.args.branch in
     let w = c.in-Ok.ensures.performs s limit at stands in
     let t = taken_out s limit at b (branch_of c.in-Ok.ticket) w.0 w.1 in
@@ -61,3 +62,11 @@ returns c = λ s limit at stands waits.
     let bound = bound_there c.args.table.now s limit at stands (omega (arith, row)) in
     subst (λ (o : Outcome). Ended s limit at b o c.give_back.new.self) (sym c.ending.ensures)
     (branch_stopped s limit at b bound.0 bound.1 (branch_of c.in-Ok.ticket) w.0 back.0 c.in-Err.field-0.fault c.settle.new.table c.give_back.new.self w.1 made gave back.2)
+
+pub returns-in_default-settle-clause-memory : goal.returns-in_default-settle-clause-memory
+returns-in_default-settle-clause-memory c = keeps_more c.args.table.now c.take.new.self c.settle.new.table c.in-Ok.ensures.memory c.in_default-settle.ensures.memory
+
+pub returns-clause-memory : goal.returns-clause-memory
+returns-clause-memory c =
+    keeps_more c.args.table.now c.settle.new.table c.give_back.new.self
+    (keeps_more c.args.table.now c.take.new.self c.settle.new.table c.in-Ok.ensures.memory c.in-Err.ensures.memory) c.in-Ok-give_back.ensures.memory

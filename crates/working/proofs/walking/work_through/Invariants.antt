@@ -4,7 +4,7 @@ use Rattle.queue.specs.Entries.{entries, room}
 use Rattle.rules.specs.Standing.{Standing}
 use Rattle.rules.specs.Working.{first_branch}
 use Rattle.sheet.specs.System.{System}
-use Rattle.table.specs.Standing.{Stands, rows_of}
+use Rattle.table.specs.Standing.{KeepsMemory, Stands, rows_of}
 use Rattle.working.specs.Work.{Reached, first_of}
 use Rattle.working.proofs.walking.work_through.Given as goal
 
@@ -15,6 +15,7 @@ invariant-loop-row l =
     × (row ≤ rows_of l.table)
     × (entries l.due ≡ range_with_len row (rows_of l.table - row))
     × (room l.due ≡ 64)
+    × KeepsMemory l.fn.table l.table
     × ((s : System) (limit : ℕ) (at : Standing) → Stands s limit l.fn.table at → Reached s limit at first_branch (first_of row) l.table)
 
 abbrev pub decreases-loop-row : goal.decreases-loop-row
