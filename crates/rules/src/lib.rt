@@ -2,7 +2,9 @@
 //! and the laws that these rest on.
 #![tactic(auto)]
 
-ghost use Rattle.std.specs.Prelude.{◌≡◌, ℕ, List, slice_get, IfOk};
+ghost use Rattle.std.specs.Prelude.{◌≡◌, ℕ, List, slice_get, IfOk, MatchResult};
+ghost use Rattle.bench.specs.Outcome.{Accepted, Refused};
+ghost use Rattle.sheet.specs.Runs.{FirstBreak};
 ghost use Rattle.sheet.specs.View.{sheet_of};
 ghost use Rattle.rules.specs.declared.Answer.{Answer};
 ghost use Rattle.rules.specs.declared.Answer.TheVariants.{Holds};
@@ -23,7 +25,7 @@ use sheet::Sheet;
 pub enum Mark {
     /// Nobody has taken it.
     Waiting,
-    /// It was taken, and a ticket names it.
+    /// It was taken, and has been neither settled nor given back since.
     Out,
     /// No run goes on by it.
     Struck,
@@ -204,8 +206,8 @@ pub fn work_settles()
     ensures { WorkSettles }
 {}
 
-/// Runs a sheet on the bench. Where some list of calls on a newly opened table was answered holds, the run answers none, over
-/// every plant model.
+/// Runs a sheet on the bench, as `bench::run` does. Where some list of calls on a newly opened table was answered holds, the run
+/// answers none, over every plant model.
 pub fn run_after_holds<M: Model>(
     sheet: &Sheet,
     model: &mut M,
@@ -213,7 +215,13 @@ pub fn run_after_holds<M: Model>(
     n: u32,
     inputs: &[u32],
 ) -> Result<Option<u32>, Fault>
-    ensures { (limit : ℕ) (calls : List Call) (answers : List Answer) (k : ℕ)
+    ensures answer { MatchResult result
+        (λ a. Accepted (sheet_of sheet.now) starts.now inputs.now n
+            × FirstBreak (M.meaning model.old) (sheet_of sheet.now) starts.now inputs.now n a)
+        (λ f. Refused (sheet_of sheet.now) starts.now inputs.now n f × (model.new ≡ model.old)) }
+    ensures kept { M.meaning model.new ≡ M.meaning model.old }
+    ensures lent { M.lenders model.new ≡ M.lenders model.old }
+    ensures promised { (limit : ℕ) (calls : List Call) (answers : List Answer) (k : ℕ)
         → Promises (sheet_of sheet.now) limit calls answers → slice_get answers k ≡ Some Holds
         → IfOk result (λ answer. answer ≡ None) }
 {

@@ -24,6 +24,9 @@ struct Arguments {
 
 fn limit_of(word: Option<String>) -> anyhow::Result<u8> {
     let word = word.ok_or_else(|| anyhow!("{USAGE}"))?;
+    if word.is_empty() {
+        return Err(anyhow!("{USAGE}"));
+    }
     let limit = number(word.as_bytes(), 255).map_err(|_| anyhow!("{USAGE}"))?;
     Ok(limit as u8)
 }
