@@ -217,7 +217,7 @@ pub fn run_after_holds<M: Model>(
 ) -> Result<Option<u32>, Fault>
     ensures answer { MatchResult result
         (λ a. Accepted (sheet_of sheet.now) starts.now inputs.now n
-            × FirstBreak (M.meaning model.old) (sheet_of sheet.now) starts.now inputs.now n a)
+        × FirstBreak (M.meaning model.old) (sheet_of sheet.now) starts.now inputs.now n a)
         (λ f. Refused (sheet_of sheet.now) starts.now inputs.now n f × (model.new ≡ model.old)) }
     ensures kept { M.meaning model.new ≡ M.meaning model.old }
     ensures lent { M.lenders model.new ≡ M.lenders model.old }
