@@ -12,7 +12,7 @@ ghost use Rattle.candidates.specs.Working.{Started, Placed, Lent, Places};
 use fault::TableFault;
 use rows::{at_or, readings_of};
 use sheet::{Args, Sheet, Term, TermEntry, recall, remember};
-use terms::{Count, Node, TermRecord, intern};
+use terms::{Count, Node, TermRecord, intern, intern_above};
 
 /// How many terms are remembered: as many as a sheet can have, in memory of fixed size, since nothing is allocated.
 pub(crate) const MOST_SHEET_TERMS: usize = 64;
@@ -41,7 +41,7 @@ impl Memory<'_> {
         ensures lent { Lent self.old self.new }
         ensures placed { (values : List BankTerm) → Started values self.old.bank.now self.old.count.now.terms self.old.known → Fit self.old.count.now.terms node → (t : BankTerm) → term_of (term_at self.old.bank.now) node ≡ t → t ≡ slice_index_or values n no_term → Placed values self.old.bank.now self.old.count.now.terms t self.new.bank.now self.new.count.now.terms self.new.known result }
     {
-        let place = intern(self.bank, self.count, node)?;
+        let place = intern_above(self.bank, self.count, node)?;
         remember(&mut self.known, n, place);
         Ok(place)
     }

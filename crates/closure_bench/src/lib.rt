@@ -3,7 +3,7 @@
 
 use closure::decide;
 use fault::TableFault;
-use terms::{Condition, Count, MOST_TERMS, Node, Sign, TermRecord, intern};
+use terms::{Condition, Count, MOST_TERMS, Node, Sign, TermRecord, intern_above};
 
 /// One entry is five numbers: a kind, a symbol or name, and three places. They are numbers since they come from C.
 const ENTRY: usize = 5;
@@ -32,7 +32,7 @@ fn load<'a>(
     for [kind, symbol, a, b, c] in entries {
         if *kind < 5 {
             let made = node(*kind, (*symbol % 256) as u8, *a, *b, *c);
-            intern(bank, &mut count, made)?;
+            intern_above(bank, &mut count, made)?;
         } else {
             let sign = if *kind == 5 {
                 Sign::Equal

@@ -1,5 +1,5 @@
 //! Terms of the bank changed throughout, by recursion on falling places.
-ghost use Rattle.std.specs.Prelude.{◌≡◌, ℕ, ◌<◌, ◌≤◌, length, MatchResult, slice_index};
+ghost use Rattle.std.specs.Prelude.{◌≡◌, ℕ, ◌<◌, ◌≤◌, length, IfOk, MatchResult, Some, slice_index, slice_set};
 ghost use Rattle.terms.specs.Bank.{Bank, Fit, term_at, term_of};
 ghost use Rattle.folding.specs.Viewing.{Bank-prop};
 ghost use Rattle.folding.specs.Rewriting.{arg, renamed_name, stopped, is_spared, Suits, Suits-prop, Known, Known-prop, Adding, PlacesChanged, ConditionsChanged, NoRoom, side_places};
@@ -7,7 +7,7 @@ ghost use Rattle.rows.specs.Records.{Between};
 
 use crate::change::Change;
 use fault::TableFault;
-use terms::{Condition, Count, MOST_TERMS, Node, TermRecord, intern};
+use terms::{Condition, Count, MOST_TERMS, Node, TermRecord, intern_above};
 
 fn renamed_name(to: &[u8], node: Node) -> Option<Node>
     ensures { result ≡ renamed_name to.now node }
@@ -62,12 +62,13 @@ impl Rewriting<'_> {
         ensures adding { Adding self.old.bank.now self.old.count.now.terms (term_of (term_at self.old.bank.now) node) self.new.bank.now self.new.count.now.terms result }
         ensures lent { (self.new.bank.ghost_name ≡ self.old.bank.ghost_name) × (self.new.count.ghost_name ≡ self.old.count.ghost_name) }
         ensures change { self.new.change.now ≡ self.old.change.now }
+        ensures known { self.new.known ≡ self.old.known }
     {
         let old = self.bank[place as usize].node;
         if old == node {
             return Ok(place);
         }
-        intern(self.bank, self.count, node)
+        intern_above(self.bank, self.count, node)
     }
 
     /// Adds the term of `node`, and remembers it as what `place` became.
@@ -78,6 +79,7 @@ impl Rewriting<'_> {
         ensures adding { Adding self.old.bank.now self.old.count.now.terms (arg self.old.bank.now self.old.change.now place) self.new.bank.now self.new.count.now.terms result }
         ensures lent { (self.new.bank.ghost_name ≡ self.old.bank.ghost_name) × (self.new.count.ghost_name ≡ self.old.count.ghost_name) }
         ensures change { self.new.change.now ≡ self.old.change.now }
+        ensures known { IfOk result (λ p. self.new.known ≡ slice_set self.old.known place (Some p)) }
     {
         let became = self.add(place, node)?;
         self.known[place as usize] = Some(became);

@@ -3,7 +3,7 @@ ghost use Rattle.std.specs.Prelude.{ℕ};
 
 use fault::TableFault;
 use rows::{RowRecord, at_or};
-use terms::{Condition, Count, Node, Sign, TermRecord, intern};
+use terms::{Condition, Count, Node, Sign, TermRecord, intern_above};
 
 const HEIGHTS: [usize; 6] = [8, 8, 7, 6, 5, 4];
 
@@ -51,7 +51,7 @@ impl Tower {
 
 impl Bank<'_> {
     fn add(&mut self, node: Node) -> Result<u16, TableFault> {
-        intern(self.records, self.count, node)
+        intern_above(self.records, self.count, node)
     }
 
     fn add_others(&mut self) -> Result<(), TableFault> {

@@ -7,7 +7,7 @@ ghost use Rattle.std.proofs.Props.{props};
 
 use super::Unread;
 use super::words::{after, number, sign};
-use terms::{Condition, Count, MOST_TERMS, Node, TermRecord, intern};
+use terms::{Condition, Count, MOST_TERMS, Node, TermRecord, intern_above};
 
 /// A term that is deeper than this has more subterms than a bank holds.
 const DEEPEST: u16 = 512;
@@ -38,7 +38,7 @@ impl Reader {
         ensures extends { Extends self.old.bank self.old.count.terms self.new.bank self.new.count.terms }
         ensures term { IfOk result (λ i. (i < self.new.count.terms) × (term_at self.new.bank i ≡ term_of (term_at self.old.bank) node)) }
     {
-        intern(&mut self.bank, &mut self.count, node).map_err(|_| Unread::TooManyTerms)
+        intern_above(&mut self.bank, &mut self.count, node).map_err(|_| Unread::TooManyTerms)
     }
 
     // Symbol and arity beside the node that has both, since each caller knows them.

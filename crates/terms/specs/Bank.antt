@@ -129,12 +129,21 @@ abbrev pub Measured : List TermRecord → ℕ → Type 0
 Measured rs i =
     (i < length rs) × Fit i (node_at rs i) × ((get_or rs i no_record).height ≡ (record_of rs (node_at rs i)).height) × ((get_or rs i no_record).names ≡ (record_of rs (node_at rs i)).names)
 
--- interning in any memory, by nodes: found at the lowest place where it can stand, or written behind the others, or refused with nothing
--- changed
+-- interning in any memory, by nodes: found at the lowest place, or written behind the others where it is at no place, or refused with
+-- nothing changed
 abbrev pub Filed : List TermRecord → ℕ → Node → List TermRecord → ℕ → Result ℕ TableFault → Type 0
 Filed rs n node rs' n' (Ok i) =
     (n ≤ length rs) × Fit n node
-    × (((floor node ≤ i) × (i < n) × (node_at rs i ≡ node) × Misses rs i node × (rs' ≡ rs) × (n' ≡ n)) ⊎ ((i ≡ n) × (n < room rs) × Misses rs n node × (rs' ≡ slice_set rs n (record_of rs node)) × (n' ≡ n + 1)))
+    × (((i < n) × (node_at rs i ≡ node) × Lacks rs i node × (rs' ≡ rs) × (n' ≡ n)) ⊎ ((i ≡ n) × (n < room rs) × Lacks rs n node × (rs' ≡ slice_set rs n (record_of rs node)) × (n' ≡ n + 1)))
 Filed rs n node rs' n' (Err e) =
+    (rs' ≡ rs) × (n' ≡ n)
+    × (((e ≡ TermsExhausted) × (n ≤ length rs) × Fit n node × (room rs ≤ n) × Lacks rs n node) ⊎ ((e ≡ BadMemory) × (n ≤ length rs → Fit n node → ⊥)))
+
+-- the same where the node is searched only from the first place on at which it can stand: in a bank it stands at no other
+abbrev pub FiledAbove : List TermRecord → ℕ → Node → List TermRecord → ℕ → Result ℕ TableFault → Type 0
+FiledAbove rs n node rs' n' (Ok i) =
+    (n ≤ length rs) × Fit n node
+    × (((floor node ≤ i) × (i < n) × (node_at rs i ≡ node) × Misses rs i node × (rs' ≡ rs) × (n' ≡ n)) ⊎ ((i ≡ n) × (n < room rs) × Misses rs n node × (rs' ≡ slice_set rs n (record_of rs node)) × (n' ≡ n + 1)))
+FiledAbove rs n node rs' n' (Err e) =
     (rs' ≡ rs) × (n' ≡ n)
     × (((e ≡ TermsExhausted) × (n ≤ length rs) × Fit n node × (room rs ≤ n) × Misses rs n node) ⊎ ((e ≡ BadMemory) × (n ≤ length rs → Fit n node → ⊥)))

@@ -1,7 +1,8 @@
 //! The bank of terms: interning, and the guard that lets working terms leave again.
-ghost use Rattle.std.specs.Prelude.{◌≡◌, ℕ, ◌<◌, ◌≤◌, length, Decides, MatchOption, MatchResult, slice_index};
+ghost use Rattle.std.specs.Prelude.{◌≡◌, ℕ, ◌+◌, ◌<◌, ◌≤◌, length, Decides, MatchOption, MatchResult, slice_index, slice_set};
+ghost use Rattle.fault.specs.declared.TableFault.TheVariants.{TermsExhausted};
 ghost use Rattle.terms.specs.Terms.{Term, name_set, occurs};
-ghost use Rattle.terms.specs.Bank.{Fit, node_at, floor, Misses, Ordered, Bank, term_of, term_at, relabel, record_of, Measured, Interned, Filed};
+ghost use Rattle.terms.specs.Bank.{Fit, node_at, floor, Misses, Lacks, Ordered, Bank, room, term_of, term_at, relabel, record_of, Measured, Interned, Filed, FiledAbove};
 
 use super::{Count, Node, TermRecord};
 use fault::TableFault;
@@ -41,8 +42,8 @@ impl Node {
 }
 
 /// The lowest place of a node, searched from the first at which it can stand.
-// The count comes beside the bank, since what is promised of a search is said of both.
-fn find(bank: &[TermRecord], terms: usize, node: Node) -> Option<usize>
+// The count comes beside the bank, here and below, since what is promised of a search is said of both.
+fn find_above(bank: &[TermRecord], terms: usize, node: Node) -> Option<usize>
     requires inside { terms ≤ length bank.now }
     requires fit { Fit terms node }
     ensures { MatchOption result (Misses bank.now terms node) (λ i. (floor node ≤ i) × (i < terms) × (node_at bank.now i ≡ node) × Misses bank.now i node) }
@@ -53,6 +54,14 @@ fn find(bank: &[TermRecord], terms: usize, node: Node) -> Option<usize>
         .iter()
         .position(|record| record.node == node)
         .map(|i| floor + i)
+}
+
+/// The lowest place of a node.
+fn find(bank: &[TermRecord], terms: usize, node: Node) -> Option<usize>
+    requires { terms ≤ length bank.now }
+    ensures { MatchOption result (Lacks bank.now terms node) (λ i. (i < terms) × (node_at bank.now i ≡ node) × Lacks bank.now i node) }
+{
+    bank[..terms].iter().position(|record| record.node == node)
 }
 
 fn measured(bank: &[TermRecord], node: Node) -> TermRecord
@@ -84,6 +93,21 @@ fn measured(bank: &[TermRecord], node: Node) -> TermRecord
     }
 }
 
+/// Writes the record of a node behind the others, where there is room.
+fn add(bank: &mut [TermRecord], count: &mut Count, node: Node) -> Result<u16, TableFault>
+    requires inside { count.old.terms ≤ length bank.old }
+    requires fit { Fit count.old.terms node }
+    ensures { MatchResult result (λ i. (i ≡ count.old.terms) × (count.old.terms < room bank.old) × (bank.new ≡ slice_set bank.old count.old.terms (record_of bank.old node)) × (count.new.terms ≡ count.old.terms + 1)) (λ e. (e ≡ TermsExhausted) × (room bank.old ≤ count.old.terms) × (bank.new ≡ bank.old) × (count.new.terms ≡ count.old.terms)) }
+{
+    let terms = count.terms as usize;
+    if terms >= MOST_TERMS || terms >= bank.len() {
+        return Err(TableFault::TermsExhausted);
+    }
+    bank[terms] = measured(bank, node);
+    count.terms += 1;
+    Ok(terms as u16)
+}
+
 /// Interning in any memory, by nodes. Apart from `intern`, whose clause on terms follows from this one.
 fn file(bank: &mut [TermRecord], count: &mut Count, node: Node) -> Result<u16, TableFault>
     ensures { Filed bank.old count.old.terms node bank.new count.new.terms result }
@@ -92,15 +116,10 @@ fn file(bank: &mut [TermRecord], count: &mut Count, node: Node) -> Result<u16, T
     if terms > bank.len() || !node.is_fit(terms) {
         return Err(TableFault::BadMemory);
     }
-    if let Some(i) = find(bank, terms, node) {
-        return Ok(i as u16);
+    match find(bank, terms, node) {
+        Some(i) => Ok(i as u16),
+        None => add(bank, count, node),
     }
-    if terms >= MOST_TERMS || terms >= bank.len() {
-        return Err(TableFault::TermsExhausted);
-    }
-    bank[terms] = measured(bank, node);
-    count.terms += 1;
-    Ok(terms as u16)
 }
 
 /// The place of the term that `node` makes of the bank's terms, added behind the others where it is new.
@@ -110,6 +129,34 @@ pub fn intern(bank: &mut [TermRecord], count: &mut Count, node: Node) -> Result<
     ensures nodes { Filed bank.old count.old.terms node bank.new count.new.terms result }
 {
     file(bank, count, node)
+}
+
+/// The same, searched only from the first place on at which the term can stand.
+fn file_above(bank: &mut [TermRecord], count: &mut Count, node: Node) -> Result<u16, TableFault>
+    ensures { FiledAbove bank.old count.old.terms node bank.new count.new.terms result }
+{
+    let terms = count.terms as usize;
+    if terms > bank.len() || !node.is_fit(terms) {
+        return Err(TableFault::BadMemory);
+    }
+    match find_above(bank, terms, node) {
+        Some(i) => Ok(i as u16),
+        None => add(bank, count, node),
+    }
+}
+
+/// What `intern` does in a bank, in less time: the term is searched only above its arguments. In memory that is no bank
+/// a record below them is not looked at, so it may be written again.
+pub fn intern_above(
+    bank: &mut [TermRecord],
+    count: &mut Count,
+    node: Node,
+) -> Result<u16, TableFault>
+    ensures terms { Bank bank.old count.old.terms → Fit count.old.terms node → Interned bank.old count.old.terms (term_of (term_at bank.old) node) bank.new count.new.terms result }
+    ensures bank { Bank bank.old count.old.terms → Filed bank.old count.old.terms node bank.new count.new.terms result }
+    ensures nodes { FiledAbove bank.old count.old.terms node bank.new count.new.terms result }
+{
+    file_above(bank, count, node)
 }
 
 /// Whether the first `terms` records have their arguments below them, so that each stands for a term.

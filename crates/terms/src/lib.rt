@@ -5,7 +5,9 @@
 
 mod bank;
 
-pub use bank::{CountGuard, MOST_TERMS, intern, is_measured, is_ordered, same_node, with_places};
+pub use bank::{
+    CountGuard, MOST_TERMS, intern, intern_above, is_measured, is_ordered, same_node, with_places,
+};
 
 /// How a term is made: a name, or a symbol over the terms at some places of the bank.
 #[derive(Clone, Copy, Debug, PartialEq, Eq)]

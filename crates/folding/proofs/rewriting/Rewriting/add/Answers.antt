@@ -12,20 +12,20 @@ returns-then-eq-clause-adding c =
 pub returns-clause-adding : goal.returns-clause-adding
 returns-clause-adding c =
     let s = c.args.self.now in
-    added_interned s.bank.now c.intern.new.bank s.count.now.terms c.intern.new.count.terms _ c.args.node c.intern.result s.is_bank s.long (c.intern.ensures.terms s.is_bank c.requires.fit) c.intern.ensures.nodes
+    added_interned s.bank.now c.intern_above.new.bank s.count.now.terms c.intern_above.new.count.terms _ c.args.node c.intern_above.result s.is_bank s.long (c.intern_above.ensures.terms s.is_bank c.requires.fit) (c.intern_above.ensures.bank s.is_bank)
 
 pub invariant_of-self : goal.invariant_of-self
 invariant_of-self c =
     let s = c.args.self.now in
     let rs = s.bank.now in
     let n = s.count.now.terms in
-    let rs' = c.intern.new.bank in
-    let n' = c.intern.new.count.terms in
+    let rs' = c.intern_above.new.bank in
+    let n' = c.intern_above.new.count.terms in
     let t = term_of (term_at rs) c.args.node in
-    let e = adding_extends rs rs' n n' t c.intern.result (added_interned rs rs' n n' t c.args.node c.intern.result s.is_bank s.long (c.intern.ensures.terms s.is_bank c.requires.fit) c.intern.ensures.nodes) in
+    let e = adding_extends rs rs' n n' t c.intern_above.result (added_interned rs rs' n n' t c.args.node c.intern_above.result s.is_bank s.long (c.intern_above.ensures.terms s.is_bank c.requires.fit) (c.intern_above.ensures.bank s.is_bank)) in
     record {
       is_bank = e.bank;
-      long = omega (arith, s.long, c.intern.auto.bank);
+      long = omega (arith, s.long, c.intern_above.auto.bank);
       suits = suits_later rs rs' n n' e s.change.now s.suits;
       is_known = known_later rs rs' n n' e s.change.now s.suits s.known s.is_known;
     }
