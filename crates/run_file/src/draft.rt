@@ -1,6 +1,6 @@
 //! What the lines so far say.
-ghost use Rattle.std.specs.Prelude.{◌≡◌, ℕ, map, vec_items};
-ghost use Rattle.text_words.specs.Words.{words_of};
+ghost use Rattle.std.specs.Prelude.{◌≡◌, ℕ, vec_items};
+ghost use Rattle.text_words.specs.Words.{words_in, words_of};
 ghost use Rattle.run_file.specs.Reading.{Means, Said, plant_of, numbers_of, so_far, nothing, named, fresh, first_named, acted, line_says};
 
 use crate::directive::{Keyword, curve_of, entry_of, one_of};
@@ -8,7 +8,7 @@ use crate::numbers::number;
 use crate::{Halt, Plant};
 use run_file_error::Problem;
 use std::alloc::Global;
-use text_words::words;
+use text_words::{before_comment, split_word};
 
 #[derive(Drop)]
 pub(crate) struct Draft {
@@ -18,13 +18,15 @@ pub(crate) struct Draft {
     pub(crate) inputs: Vec<u32>,
 }
 
-/// The numbers that the words write.
-fn numbers(heap: Global, words: &[&[u8]]) -> Result<Vec<u32>, Halt>
-    ensures { Means vec_items result (numbers_of (map (λ w. w.now) words.now)) }
+/// The numbers that the words of a text write.
+fn numbers(heap: Global, text: &[u8]) -> Result<Vec<u32>, Halt>
+    ensures { Means vec_items result (numbers_of (words_in text.now)) }
 {
     let mut found = Vec::new(heap);
-    for word in words {
+    let mut rest = text;
+    while let Some((word, after)) = split_word(rest) {
         found.push(number(word)?)?;
+        rest = after;
     }
     Ok(found)
 }
@@ -153,11 +155,10 @@ impl Draft {
     pub(crate) fn line(&mut self, heap: Global, text: &[u8]) -> Result<(), Halt>
         ensures { Means (λ _. so_far self.new) result (line_says (so_far self.old) (words_of text.now)) }
     {
-        let words = words(heap, text)?;
-        let [name, rest @ ..] = words.as_slice() else {
+        let Some((name, rest)) = split_word(before_comment(text)) else {
             return Ok(());
         };
-        let keyword = Keyword::try_from(*name)?;
+        let keyword = Keyword::try_from(name)?;
         let numbers = numbers(heap, rest)?;
         self.take(heap, keyword, numbers)
     }

@@ -1,5 +1,5 @@
 -- Lines, words and numbers of a text of bytes. Assumes nothing.
-use Rattle.std.specs.Prelude.{ℕ, ◌+◌, ◌-◌, ◌*◌, Bool, not, ◌||◌, List, [], ◌∷◌, length, filter, Ok, Err, Result, ◌==◌, nat_le, if◌then◌else◌}
+use Rattle.std.specs.Prelude.{◌≡◌, ℕ, ◌+◌, ◌-◌, ◌*◌, ◌<◌, Bool, true, not, ◌||◌, List, [], ◌∷◌, length, get_or, drop, filter, Ok, Err, Result, ◌==◌, nat_le, if◌then◌else◌}
 use Rattle.std.specs.List.{slice_split, before_first, list_all}
 use Rattle.std.specs.Char.{is_ascii_digit}
 use Rattle.text_words.specs.declared.NotNumber.{NotNumber}
@@ -17,9 +17,19 @@ lines_of = slice_split (λ b. b == 10)
 abbrev pub before_comment : List ℕ → List ℕ
 before_comment line = before_first (λ b. b == 35) line
 
+-- the words of a text: what stands between blanks, where anything does
+abbrev pub words_in : List ℕ → List (List ℕ)
+words_in text = filter (λ word. not (length word == 0)) (slice_split blank text)
+
+-- the text is some blanks and then the rest
+pub record BlanksBefore (rest text : List ℕ) : Type 0 where
+  pub blanks : ℕ
+  pub front : (k : ℕ) → k < blanks → blank (get_or text k 0) ≡ true
+  pub back : drop blanks text ≡ rest
+
 -- the words of a line: those before its comment
 abbrev pub words_of : List ℕ → List (List ℕ)
-words_of line = filter (λ word. not (length word == 0)) (slice_split blank (before_comment line))
+words_of line = words_in (before_comment line)
 
 -- the value of decimal digits that follow those of n
 abbrev pub value_after : ℕ → List ℕ → ℕ

@@ -1,10 +1,10 @@
 //! Lines of a text of bytes, the words of a line, and the numbers that words write.
 #![tactic(auto)]
 
-ghost use Rattle.std.specs.Prelude.{◌≡◌, ◌+◌, ◌*◌, ◌≤◌, map, IfOk};
+ghost use Rattle.std.specs.Prelude.{◌≡◌, ◌+◌, ◌*◌, ◌<◌, ◌≤◌, [], ◌∷◌, ◌++◌, length, map, IfOk, MatchOption};
 ghost use Rattle.std.specs.Char.{is_ascii_digit};
 ghost use Rattle.std.specs.List.{list_all};
-ghost use Rattle.text_words.specs.Words.{blank, lines_of, before_comment, words_of, within, number_of};
+ghost use Rattle.text_words.specs.Words.{blank, lines_of, before_comment, words_in, words_of, BlanksBefore, within, number_of};
 ghost use Rattle.text_words.specs.Grammar.{Grammar};
 
 use std::alloc::{AllocError, Global};
@@ -33,10 +33,23 @@ fn is_blank(b: u8) -> bool
 }
 
 /// The line up to its comment.
-fn before_comment(line: &[u8]) -> &[u8]
+pub fn before_comment(line: &[u8]) -> &[u8]
     ensures { result.now ≡ before_comment line.now }
 {
     line.split(|b| *b == b'#').next().unwrap_or(line)
+}
+
+/// The first word of a text and all that comes behind it; none where the text has blanks alone.
+// Beside `words`, whose list takes much more memory than the text.
+pub fn split_word(text: &[u8]) -> Option<(&[u8], &[u8])>
+    ensures words { MatchOption result (words_in text.now ≡ []) (λ p. words_in text.now ≡ p.0.now ∷ words_in p.1.now) }
+    ensures parts { MatchOption result (Unit {0}) (λ p. BlanksBefore (p.0.now ++ p.1.now) text.now) }
+    ensures shorter { MatchOption result (Unit {0}) (λ p. length p.1.now < length text.now) }
+{
+    let start = text.iter().position(|b| !is_blank(*b))?;
+    let (_, said) = text.split_at(start);
+    let end = said.iter().position(|b| is_blank(*b)).unwrap_or(said.len());
+    Some(said.split_at(end))
 }
 
 /// The words of a line: those before its comment.
