@@ -9,7 +9,7 @@ ghost use Rattle.closure.specs.Pending.{Added};
 
 use super::labels::join;
 use super::places::Places;
-use super::table::Table;
+use super::table::{Table, bucket};
 use queue::Queue;
 use terms::{MOST_TERMS, Node};
 
@@ -56,15 +56,18 @@ pub(crate) struct Uses {
 }
 
 impl Uses {
-    pub(crate) fn new(places: &Places, labels: &[u16]) -> Self {
-        let mut uses = Uses {
-            first: [None; MOST_TERMS],
-            more: [None; MOST_USES],
-        };
+    /// No uses yet.
+    pub(crate) const BLANK: Uses = Uses {
+        first: [None; MOST_TERMS],
+        more: [None; MOST_USES],
+    };
+
+    /// Lists the uses of all places.
+    // In lists that stand already, since lists made here would be copied whole when they are handed out.
+    pub(crate) fn list(&mut self, places: &Places, labels: &[u16]) {
         for (i, record) in places.bank[..places.terms].iter().enumerate() {
-            uses.note(labels, record.node, i * ARGUMENTS);
+            self.note(labels, record.node, i * ARGUMENTS);
         }
-        uses
     }
 
     /// Notes the uses of the places that a node names, from the use `from` on.
@@ -132,7 +135,7 @@ fn revisit(
     ensures roomy { room pending.new ≡ room pending.old }
 {
     let sought = places.signature(user, labels);
-    if let Some(j) = table.lookup(places, labels, sought) {
+    if let Some(j) = table.lookup(places, labels, bucket(sought), sought) {
         if labels[user] != labels[j] {
             let _ = pending.push(Equation {
                 left: user as u16,

@@ -51,21 +51,29 @@ impl Table {
         }
     }
 
-    /// A place of the sought signature on the table.
+    /// A place of the sought signature on the table, whose bucket stands beside it, since who sought it has both.
     // Crate `banks` walks its chains in the same way. A walk for both would be public and take the test as a closure, and
     // that the closure may be called would be a `requires` of it; public calls ask nothing.
-    pub(crate) fn lookup(&self, places: &Places, labels: &[u16], sought: Node) -> Option<usize>
+    pub(crate) fn lookup(
+        &self,
+        places: &Places,
+        labels: &[u16],
+        at: usize,
+        sought: Node,
+    ) -> Option<usize>
         requires inside { self.now.seen ≤ places.now.terms }
         requires labelled { places.now.terms ≤ length labels.now }
+        requires bucket { at ≡ bucket_of sought }
+        requires below { at < 1024 }
         ensures { MatchOption result ((j : ℕ) → Reaches self.now.next (slice_index_or self.now.heads (bucket_of sought) None) j → sig places.now.bank.now labels.now j ≢ sought) (λ j. (j < self.now.seen) × (sig places.now.bank.now labels.now j ≡ sought)) }
     {
-        let mut at = self.heads[bucket(sought)];
-        while let Some(j) = at {
+        let mut link = self.heads[at];
+        while let Some(j) = link {
             let place = j as usize;
             if places.signature(place, labels) == sought {
                 return Some(place);
             }
-            at = self.next[place];
+            link = self.next[place];
         }
         None
     }
@@ -82,14 +90,14 @@ impl Table {
     {
         let i = self.seen;
         let sought = places.signature(i, labels);
-        match self.lookup(places, labels, sought) {
+        let at = bucket(sought);
+        match self.lookup(places, labels, at, sought) {
             Some(j) => {
                 self.seen += 1;
                 let gone = labels[i].max(labels[j]);
                 join(labels, places.terms, i, j).then_some(gone)
             }
             None => {
-                let at = bucket(sought);
                 self.next[i] = self.heads[at];
                 self.heads[at] = Some(i as u16);
                 self.seen += 1;
@@ -145,7 +153,8 @@ pub(crate) fn saturate(places: &Places, labels: &mut [u16]) -> u16
     ensures grown { Grown places.now.bank.now places.now.terms labels.old labels.new result }
     ensures closed { Closed places.now.bank.now places.now.terms labels.new }
 {
-    let mut uses = Uses::new(places, labels);
+    let mut uses = Uses::BLANK;
+    uses.list(places, labels);
     let mut slots = [Equation::BLANK; 64];
     let mut pending = Pending::new(&mut slots);
     let mut joins = 0;
