@@ -41,16 +41,7 @@ struct Step<'a> {
     labels: [u16; MOST_TERMS],
 }
 
-impl<'a> Step<'a> {
-    fn new(sheet: &'a Sheet) -> Step<'a> {
-        Step {
-            sheet,
-            bank: [TermRecord::BLANK; MOST_TERMS],
-            count: Count { terms: 0 },
-            labels: [0; MOST_TERMS],
-        }
-    }
-
+impl Step<'_> {
     fn first_row(&mut self) -> Result<RowRecord, TableFault> {
         first_row(self.sheet, &mut self.bank, &mut self.count)
     }
@@ -160,7 +151,13 @@ fn write_branches(text: &mut String, step: &mut Step, row: &RowRecord) -> Result
 }
 
 fn write_step(text: &mut String, sheet: &Sheet) -> Result<(), AllocError> {
-    let mut step = Step::new(sheet);
+    // Made here, since a function would hand its memory out by a copy.
+    let mut step = Step {
+        sheet,
+        bank: [TermRecord::BLANK; MOST_TERMS],
+        count: Count { terms: 0 },
+        labels: [0; MOST_TERMS],
+    };
     let row = step.first_row();
     let shown = Answer(row.map(|row| step.view(row)));
     writeln!(text, "row 0 {shown}")?;

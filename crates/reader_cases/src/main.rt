@@ -12,7 +12,11 @@ use std::io::{BufRead, BufReader};
 fn digit(c: u8) -> u8
     ensures { result < 16 }
 {
-    (c as char).to_digit(16).unwrap_or(0) as u8
+    match c {
+        // A capital is no digit here, though it is one of `to_digit`.
+        b'A'..=b'F' => 0,
+        _ => (c as char).to_digit(16).unwrap_or(0) as u8,
+    }
 }
 
 // Not by `hex`, which refuses a line `-`: it stands for no bytes.

@@ -56,6 +56,9 @@ fn push_record(
     Ok(end)
 }
 
+/// The room that a text begins with, for the front of its first line. It doubles from there.
+const FIRST_ROOM: usize = "record 0 byte 0 B".len();
+
 // The bytes of a sheet, and the records that were read, which stand at their front.
 #[derive(Drop)]
 struct ReadRecords<'a> {
@@ -80,7 +83,7 @@ impl<'a> ReadRecords<'a> {
     fn whole(&self, heap: Global) -> Result<String, AllocError>
         ensures { IfOk result (λ t. string_bytes t ≡ lines_of 0 0 self.now.records.now ++ ok_line (length self.now.records.now) (length (written_all self.now.records.now))) }
     {
-        let mut text = String::new(heap);
+        let mut text = String::with_capacity(heap, FIRST_ROOM)?;
         let place = self.push_records(&mut text)?;
         let number = self.records.len();
         push_line(&mut text, number, place, b'E', &[])?;
@@ -93,7 +96,7 @@ impl<'a> ReadRecords<'a> {
     fn faulty(&self, heap: Global, fault: Fault) -> Result<String, AllocError>
         ensures { IfOk result (λ t. string_bytes t ≡ lines_of 0 0 self.now.records.now ++ (text_of fault ++ codes "\n")) }
     {
-        let mut text = String::new(heap);
+        let mut text = String::with_capacity(heap, FIRST_ROOM)?;
         self.push_records(&mut text)?;
         writeln!(text, "{fault}")?;
         Ok(text)
