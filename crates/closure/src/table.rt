@@ -51,7 +51,7 @@ impl Table {
         }
     }
 
-    /// A place of the sought signature on the table, whose bucket stands beside it, since who sought it has both.
+    /// A place of the sought signature on the table. Its bucket is given too, since its callers have it.
     // Crate `banks` walks its chains in the same way. A walk for both would be public and take the test as a closure, and
     // that the closure may be called would be a `requires` of it; public calls ask nothing.
     pub(crate) fn lookup(

@@ -40,13 +40,13 @@ floor-fit k (Ternary f a b c) fit = omega (arith, fit.0, fit.1, fit.2)
 lacks_from_misses : (rs : List TermRecord) (n : ℕ) (node : Node) → Bank rs n → Misses rs n node → Lacks rs n node
 lacks_from_misses rs n node b misses k lt is = misses k (floor-fit k node (subst (Fit k) is (b.ordered.fit k lt))) lt is
 
--- so what is filed from there on is filed
+-- so in a bank `FiledAbove` says all that `Filed` says
 pub filed_in_bank : (rs rs' : List TermRecord) (n n' : ℕ) (node : Node) (r : Result ℕ TableFault) → Bank rs n → FiledAbove rs n node rs' n' r → Filed rs n node rs' n' r
 filed_in_bank rs rs' n n' node (Ok i) b filed = (
   filed.0,
   filed.1,
   ⊎_elim
-      (λ f. inl (f.1, f.2, lacks_from_misses rs i node (bank_less rs n i (omega (arith, f.1)) b) f.3, f.4, f.5))
+      (λ f. inl ((f.0.1, f.0.2, lacks_from_misses rs i node (bank_less rs n i (omega (arith, f.0.1)) b) f.0.3), f.1, f.2))
       (λ f. inr (f.0, f.1, lacks_from_misses rs n node b f.2, f.3, f.4))
       filed.2,
 )
@@ -117,8 +117,8 @@ module _ (rs : List TermRecord) (n : ℕ) (node : Node) (b : Bank rs n) (fit : F
 pub interned : (rs rs' : List TermRecord) (n n' : ℕ) (node : Node) (r : Result ℕ TableFault) → Bank rs n → Fit n node → Filed rs n node rs' n' r → Interned rs n (term_of (term_at rs) node) rs' n' r
 interned rs rs' n n' node (Ok i) b fit filed =
     ⊎_elim
-    (λ f. subst (λ ys. (Bank ys n') × Stays n rs ys × (i < n') × (term_at ys i ≡ term_of (term_at rs) node) × (((i < n) × (n' ≡ n)) ⊎ ((i ≡ n) × (n' ≡ n + 1) × Absent rs n (term_of (term_at rs) node)))) (sym f.3)
-    (subst (Bank rs) (sym f.4) b, (λ k lt. (refl, refl)), omega (arith, f.0, f.4), term_at-ordered rs n b.ordered i f.0 ∙ ap (term_of (term_at rs)) f.1, inl (f.0, f.4)))
+    (λ f. subst (λ ys. (Bank ys n') × Stays n rs ys × (i < n') × (term_at ys i ≡ term_of (term_at rs) node) × (((i < n) × (n' ≡ n)) ⊎ ((i ≡ n) × (n' ≡ n + 1) × Absent rs n (term_of (term_at rs) node)))) (sym f.1)
+    (subst (Bank rs) (sym f.2) b, (λ k lt. (refl, refl)), omega (arith, f.0.0, f.2), term_at-ordered rs n b.ordered i f.0.0 ∙ ap (term_of (term_at rs)) f.0.1, inl (f.0.0, f.2)))
     (λ f. subst (λ ys. (Bank ys n') × Stays n rs ys × (i < n') × (term_at ys i ≡ term_of (term_at rs) node) × (((i < n) × (n' ≡ n)) ⊎ ((i ≡ n) × (n' ≡ n + 1) × Absent rs n (term_of (term_at rs) node)))) (sym f.3)
     (let less : n < length rs = omega (arith, f.1) in
     (subst (Bank (set rs n (record_of rs node))) (sym f.4) (bank_after rs n node b fit less (omega (arith, f.1)) f.2), stays_after rs n node b fit less, omega (arith, f.0, f.4), ap (term_at (set rs n (record_of rs node))) f.0 ∙ new_term rs n node b fit less, inr (f.0, f.4, absent_from_lacks rs n node b fit f.2))))

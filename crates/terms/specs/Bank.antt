@@ -76,6 +76,14 @@ floor (Ternary f a b c) = max a (max b c) + 1
 abbrev pub Misses : List TermRecord → ℕ → Node → Type 0
 Misses rs n node = (k : ℕ) → floor node ≤ k → k < n → node_at rs k ≢ node
 
+-- the lowest place of a node
+abbrev pub LowestAt : List TermRecord → ℕ → Node → ℕ → Type 0
+LowestAt rs n node i = (i < n) × (node_at rs i ≡ node) × Lacks rs i node
+
+-- the lowest place of a node, from the first place on at which it can stand
+abbrev pub LowestAbove : List TermRecord → ℕ → Node → ℕ → Type 0
+LowestAbove rs n node i = (floor node ≤ i) × (i < n) × (node_at rs i ≡ node) × Misses rs i node
+
 -- a bank of n terms: subterms first, each term once, with its height and names
 pub record Bank (rs : List TermRecord) (n : ℕ) : Type 0 where
   pub ordered : Ordered rs n
@@ -129,12 +137,24 @@ abbrev pub Measured : List TermRecord → ℕ → Type 0
 Measured rs i =
     (i < length rs) × Fit i (node_at rs i) × ((get_or rs i no_record).height ≡ (record_of rs (node_at rs i)).height) × ((get_or rs i no_record).names ≡ (record_of rs (node_at rs i)).names)
 
+-- the same by the term of a node over the bank's terms
+abbrev pub InternedNode : List TermRecord → ℕ → Node → List TermRecord → ℕ → Result ℕ TableFault → Type 0
+InternedNode rs n node rs' n' r = Bank rs n → Fit n node → Interned rs n (term_of (term_at rs) node) rs' n' r
+
+-- the record of a node written behind the others
+abbrev pub Appended : List TermRecord → ℕ → Node → List TermRecord → ℕ → ℕ → Type 0
+Appended rs n node rs' n' i = (i ≡ n) × (n < room rs) × (rs' ≡ slice_set rs n (record_of rs node)) × (n' ≡ n + 1)
+
+-- no room for one more, and nothing changed
+abbrev pub RoomExhausted : List TermRecord → ℕ → List TermRecord → ℕ → TableFault → Type 0
+RoomExhausted rs n rs' n' e = (e ≡ TermsExhausted) × (room rs ≤ n) × (rs' ≡ rs) × (n' ≡ n)
+
 -- interning in any memory, by nodes: found at the lowest place, or written behind the others where it is at no place, or refused with
 -- nothing changed
 abbrev pub Filed : List TermRecord → ℕ → Node → List TermRecord → ℕ → Result ℕ TableFault → Type 0
 Filed rs n node rs' n' (Ok i) =
     (n ≤ length rs) × Fit n node
-    × (((i < n) × (node_at rs i ≡ node) × Lacks rs i node × (rs' ≡ rs) × (n' ≡ n)) ⊎ ((i ≡ n) × (n < room rs) × Lacks rs n node × (rs' ≡ slice_set rs n (record_of rs node)) × (n' ≡ n + 1)))
+    × ((LowestAt rs n node i × (rs' ≡ rs) × (n' ≡ n)) ⊎ ((i ≡ n) × (n < room rs) × Lacks rs n node × (rs' ≡ slice_set rs n (record_of rs node)) × (n' ≡ n + 1)))
 Filed rs n node rs' n' (Err e) =
     (rs' ≡ rs) × (n' ≡ n)
     × (((e ≡ TermsExhausted) × (n ≤ length rs) × Fit n node × (room rs ≤ n) × Lacks rs n node) ⊎ ((e ≡ BadMemory) × (n ≤ length rs → Fit n node → ⊥)))
@@ -143,7 +163,11 @@ Filed rs n node rs' n' (Err e) =
 abbrev pub FiledAbove : List TermRecord → ℕ → Node → List TermRecord → ℕ → Result ℕ TableFault → Type 0
 FiledAbove rs n node rs' n' (Ok i) =
     (n ≤ length rs) × Fit n node
-    × (((floor node ≤ i) × (i < n) × (node_at rs i ≡ node) × Misses rs i node × (rs' ≡ rs) × (n' ≡ n)) ⊎ ((i ≡ n) × (n < room rs) × Misses rs n node × (rs' ≡ slice_set rs n (record_of rs node)) × (n' ≡ n + 1)))
+    × ((LowestAbove rs n node i × (rs' ≡ rs) × (n' ≡ n)) ⊎ ((i ≡ n) × (n < room rs) × Misses rs n node × (rs' ≡ slice_set rs n (record_of rs node)) × (n' ≡ n + 1)))
 FiledAbove rs n node rs' n' (Err e) =
     (rs' ≡ rs) × (n' ≡ n)
     × (((e ≡ TermsExhausted) × (n ≤ length rs) × Fit n node × (room rs ≤ n) × Misses rs n node) ⊎ ((e ≡ BadMemory) × (n ≤ length rs → Fit n node → ⊥)))
+
+-- in a bank this is what filing is
+abbrev pub FiledInBank : List TermRecord → ℕ → Node → List TermRecord → ℕ → Result ℕ TableFault → Type 0
+FiledInBank rs n node rs' n' r = Bank rs n → Filed rs n node rs' n' r

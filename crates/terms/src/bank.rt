@@ -1,8 +1,7 @@
 //! The bank of terms: interning, and the guard that lets working terms leave again.
-ghost use Rattle.std.specs.Prelude.{◌≡◌, ℕ, ◌+◌, ◌<◌, ◌≤◌, length, Decides, MatchOption, MatchResult, slice_index, slice_set};
-ghost use Rattle.fault.specs.declared.TableFault.TheVariants.{TermsExhausted};
+ghost use Rattle.std.specs.Prelude.{◌≡◌, ℕ, ◌≤◌, length, Decides, IfOk, IfErr, MatchOption, MatchResult, slice_index};
 ghost use Rattle.terms.specs.Terms.{Term, name_set, occurs};
-ghost use Rattle.terms.specs.Bank.{Fit, node_at, floor, Misses, Lacks, Ordered, Bank, room, term_of, term_at, relabel, record_of, Measured, Interned, Filed, FiledAbove};
+ghost use Rattle.terms.specs.Bank.{Fit, node_at, floor, Misses, Lacks, LowestAt, LowestAbove, Ordered, term_at, relabel, record_of, Measured, InternedNode, Appended, RoomExhausted, Filed, FiledAbove, FiledInBank};
 
 use super::{Count, Node, TermRecord};
 use fault::TableFault;
@@ -46,7 +45,7 @@ impl Node {
 fn find_above(bank: &[TermRecord], terms: usize, node: Node) -> Option<usize>
     requires inside { terms ≤ length bank.now }
     requires fit { Fit terms node }
-    ensures { MatchOption result (Misses bank.now terms node) (λ i. (floor node ≤ i) × (i < terms) × (node_at bank.now i ≡ node) × Misses bank.now i node) }
+    ensures { MatchOption result (Misses bank.now terms node) (LowestAbove bank.now terms node) }
 {
     let floor = node.floor();
     let above = &bank[floor..terms];
@@ -59,7 +58,7 @@ fn find_above(bank: &[TermRecord], terms: usize, node: Node) -> Option<usize>
 /// The lowest place of a node.
 fn find(bank: &[TermRecord], terms: usize, node: Node) -> Option<usize>
     requires { terms ≤ length bank.now }
-    ensures { MatchOption result (Lacks bank.now terms node) (λ i. (i < terms) × (node_at bank.now i ≡ node) × Lacks bank.now i node) }
+    ensures { MatchOption result (Lacks bank.now terms node) (LowestAt bank.now terms node) }
 {
     bank[..terms].iter().position(|record| record.node == node)
 }
@@ -97,7 +96,8 @@ fn measured(bank: &[TermRecord], node: Node) -> TermRecord
 fn add(bank: &mut [TermRecord], count: &mut Count, node: Node) -> Result<u16, TableFault>
     requires inside { count.old.terms ≤ length bank.old }
     requires fit { Fit count.old.terms node }
-    ensures { MatchResult result (λ i. (i ≡ count.old.terms) × (count.old.terms < room bank.old) × (bank.new ≡ slice_set bank.old count.old.terms (record_of bank.old node)) × (count.new.terms ≡ count.old.terms + 1)) (λ e. (e ≡ TermsExhausted) × (room bank.old ≤ count.old.terms) × (bank.new ≡ bank.old) × (count.new.terms ≡ count.old.terms)) }
+    ensures added { IfOk result (Appended bank.old count.old.terms node bank.new count.new.terms) }
+    ensures refused { IfErr result (RoomExhausted bank.old count.old.terms bank.new count.new.terms) }
 {
     let terms = count.terms as usize;
     if terms >= MOST_TERMS || terms >= bank.len() {
@@ -122,16 +122,7 @@ fn file(bank: &mut [TermRecord], count: &mut Count, node: Node) -> Result<u16, T
     }
 }
 
-/// The place of the term that `node` makes of the bank's terms, added behind the others where it is new.
-/// Refuses a new term where the bank is full, and a node or a count that does not fit the memory.
-pub fn intern(bank: &mut [TermRecord], count: &mut Count, node: Node) -> Result<u16, TableFault>
-    ensures terms { Bank bank.old count.old.terms → Fit count.old.terms node → Interned bank.old count.old.terms (term_of (term_at bank.old) node) bank.new count.new.terms result }
-    ensures nodes { Filed bank.old count.old.terms node bank.new count.new.terms result }
-{
-    file(bank, count, node)
-}
-
-/// The same, searched only from the first place on at which the term can stand.
+/// The same, searched only from the first place on at which the node can stand.
 fn file_above(bank: &mut [TermRecord], count: &mut Count, node: Node) -> Result<u16, TableFault>
     ensures { FiledAbove bank.old count.old.terms node bank.new count.new.terms result }
 {
@@ -145,6 +136,15 @@ fn file_above(bank: &mut [TermRecord], count: &mut Count, node: Node) -> Result<
     }
 }
 
+/// The place of the term that `node` makes of the bank's terms, added behind the others where it is new.
+/// Refuses a new term where the bank is full, and a node or a count that does not fit the memory.
+pub fn intern(bank: &mut [TermRecord], count: &mut Count, node: Node) -> Result<u16, TableFault>
+    ensures terms { InternedNode bank.old count.old.terms node bank.new count.new.terms result }
+    ensures nodes { Filed bank.old count.old.terms node bank.new count.new.terms result }
+{
+    file(bank, count, node)
+}
+
 /// What `intern` does in a bank, in less time: the term is searched only above its arguments. In memory that is no bank
 /// a record below them is not looked at, so it may be written again.
 pub fn intern_above(
@@ -152,8 +152,8 @@ pub fn intern_above(
     count: &mut Count,
     node: Node,
 ) -> Result<u16, TableFault>
-    ensures terms { Bank bank.old count.old.terms → Fit count.old.terms node → Interned bank.old count.old.terms (term_of (term_at bank.old) node) bank.new count.new.terms result }
-    ensures bank { Bank bank.old count.old.terms → Filed bank.old count.old.terms node bank.new count.new.terms result }
+    ensures terms { InternedNode bank.old count.old.terms node bank.new count.new.terms result }
+    ensures bank { FiledInBank bank.old count.old.terms node bank.new count.new.terms result }
     ensures nodes { FiledAbove bank.old count.old.terms node bank.new count.new.terms result }
 {
     file_above(bank, count, node)

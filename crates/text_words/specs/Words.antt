@@ -21,6 +21,10 @@ before_comment line = before_first (λ b. b == 35) line
 abbrev pub words_in : List ℕ → List (List ℕ)
 words_in text = filter (λ word. not (length word == 0)) (slice_split blank text)
 
+-- the words of a text are this one and then those of the rest
+abbrev pub FirstWord : List ℕ → List ℕ → List ℕ → Type 0
+FirstWord text word rest = words_in text ≡ word ∷ words_in rest
+
 -- the text is some blanks and then the rest
 pub record BlanksBefore (rest text : List ℕ) : Type 0 where
   pub blanks : ℕ

@@ -4,7 +4,7 @@
 ghost use Rattle.std.specs.Prelude.{◌≡◌, ◌+◌, ◌*◌, ◌<◌, ◌≤◌, [], ◌∷◌, ◌++◌, length, map, IfOk, MatchOption};
 ghost use Rattle.std.specs.Char.{is_ascii_digit};
 ghost use Rattle.std.specs.List.{list_all};
-ghost use Rattle.text_words.specs.Words.{blank, lines_of, before_comment, words_in, words_of, BlanksBefore, within, number_of};
+ghost use Rattle.text_words.specs.Words.{blank, lines_of, before_comment, words_in, words_of, FirstWord, BlanksBefore, within, number_of};
 ghost use Rattle.text_words.specs.Grammar.{Grammar};
 
 use std::alloc::{AllocError, Global};
@@ -42,7 +42,7 @@ pub fn before_comment(line: &[u8]) -> &[u8]
 /// The first word of a text and all that comes behind it; none where the text has blanks alone.
 // Beside `words`, whose list takes much more memory than the text.
 pub fn split_word(text: &[u8]) -> Option<(&[u8], &[u8])>
-    ensures words { MatchOption result (words_in text.now ≡ []) (λ p. words_in text.now ≡ p.0.now ∷ words_in p.1.now) }
+    ensures words { MatchOption result (words_in text.now ≡ []) (λ p. FirstWord text.now p.0.now p.1.now) }
     ensures parts { MatchOption result (Unit {0}) (λ p. BlanksBefore (p.0.now ++ p.1.now) text.now) }
     ensures shorter { MatchOption result (Unit {0}) (λ p. length p.1.now < length text.now) }
 {
